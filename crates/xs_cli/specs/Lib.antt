@@ -1,0 +1,9 @@
+pub mod Thin
+pub mod Before
+pub mod Code
+pub mod Machine
+pub mod Line
+pub mod Steps
+pub mod Answer
+pub mod Ends
+pub mod Prints
