@@ -1,0 +1,11 @@
+-- Which calls of an object in memory fail. Calls are counted from 1.
+use Rattle.std.specs.Prelude.{◌==◌, ◌+◌, ◌-◌, ◌^◌, ℕ, min, List, find, Option}
+use Rattle.xs_base.specs.declared.fails.Fail.{Fail}
+
+-- One more, or the last value of a `u64`, at which a count stands still.
+abbrev pub counted : ℕ → ℕ
+counted count = min (count + 1) (2 ^ 64 - 1)
+
+-- The first entry for a call, where it is listed.
+abbrev pub failing : List Fail → ℕ → Option Fail
+failing fails call = find (λ fail. fail.call == call) fails

@@ -1,0 +1,4 @@
+pub mod Outside
+pub mod Line
+pub mod Held
+pub mod Failing
