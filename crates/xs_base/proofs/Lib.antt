@@ -1,2 +1,3 @@
 pub mod Writes
 pub mod LineReads
+pub mod LineCuts

@@ -2,3 +2,5 @@ pub mod Outside
 pub mod Line
 pub mod Held
 pub mod Failing
+pub mod MemSink
+pub mod MemLines

@@ -4,9 +4,13 @@
 mod fails;
 mod files;
 mod lines;
+mod mem_lines;
+mod mem_sink;
 mod sink;
 
 pub use fails::{Fail, Fails};
 pub use files::{FileBytes, FileFault, Files};
 pub use lines::{LineBuffer, Lines, ReadFault};
+pub use mem_lines::MemLines;
+pub use mem_sink::MemSink;
 pub use sink::{Sink, WriteFault};
