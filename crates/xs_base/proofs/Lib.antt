@@ -1,3 +1,5 @@
 pub mod Writes
 pub mod LineReads
 pub mod LineCuts
+pub mod Totals
+pub mod Packing

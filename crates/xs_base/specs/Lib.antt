@@ -4,3 +4,4 @@ pub mod Held
 pub mod Failing
 pub mod MemSink
 pub mod MemLines
+pub mod Packed

@@ -6,6 +6,7 @@ mod files;
 mod lines;
 mod mem_lines;
 mod mem_sink;
+mod packed;
 mod sink;
 
 pub use fails::{Fail, Fails};
