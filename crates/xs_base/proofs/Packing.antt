@@ -1,5 +1,5 @@
 -- Files one after another in one run of bytes, seen as a map from names to contents.
-use Rattle.std.proofs.Common.{◌≡◌, ◌↔◌, IsTrue, nat_le, nat_lt, ◌≤◌, ◌<◌, ◌+◌, ◌-◌, ◌++◌, ◌∙◌, suc, ℕ, Bool, true, false, cond, List, [], ◌∷◌, length, take, drop, sum_by, Option, Some, None, MatchOption, slice_index_or, ap, ap₂, sym, refl, subst, append_assoc, append-nil, length-append, take-append-drop, arith}
+use Rattle.std.proofs.Common.{◌≡◌, ◌↔◌, IsTrue, nat_le, nat_lt, ◌≤◌, ◌<◌, ◌&&◌, ◌+◌, ◌-◌, ◌++◌, ◌∙◌, suc, ℕ, Bool, true, false, cond, List, [], ◌∷◌, length, take, drop, sum_by, Option, Some, None, MatchOption, slice_index_or, ap, ap₂, sym, refl, subst, append_assoc, append-nil, length-append, take-append-drop, arith}
 use Rattle.std.specs.Str.{bytes_eq}
 use Rattle.std.specs.Bool.{one_answer}
 use Rattle.std.specs.Ordering.{nat_cmp}
@@ -13,10 +13,14 @@ use Rattle.std.proofs.lemmas.Slice.Eq.{bytes_eq-Decides}
 use Rattle.std.proofs.lemmas.List.{length-take-le, length-drop, length-set, take_at, take_all, take_more, take-take, take-append-le, drop_at, drop-drop, drop-append-le, drop_more, set_at, get_or_at}
 use Rattle.std.proofs.lemmas.List.Sums.{sum_by-cons, sum_by-append, sum_by_push, sum_by_more, sum_by_more_le}
 use Rattle.xs_base.specs.Held.{Contents, held}
-use Rattle.xs_base.specs.Packed.{size, entries_of, contents_of, look, total, IsPacked, IsPlace}
-use Rattle.xs_base.specs.declared.packed.Extent.{Extent}
-use Rattle.xs_base.specs.declared.packed.Place.{Place}
-use Rattle.xs_base.proofs.Totals.{total-insert_new, total-insert_old, len-insert_new, len-insert_old}
+use Rattle.xs_base.specs.Packed.{size, entries_of, contents_of, look, IsPacked, IsPlace}
+use Rattle.xs_base.specs.Table.{Table, total, fits}
+use Rattle.xs_base.specs.declared.extent.Extent.{Extent}
+use Rattle.xs_base.specs.declared.extent.Place.{Place}
+use Rattle.std.specs.Option.{option_map}
+use Rattle.xs_base.specs.MemFiles.{standing}
+use Rattle.xs_base.specs.declared.fails.Fail.{Fail}
+use Rattle.xs_base.proofs.Totals.{total-insert_new, total-insert_old, total-insert_part, len-insert_new, len-insert_old, len-insert_part}
 
 abbrev Entries : Type 0
 Entries = List (List ℕ × List ℕ)
@@ -90,7 +94,7 @@ entries_of-last xs x h k v e a b = ap (λ (w : List ℕ). entries_of (xs ++ x �
 
 -- ---- a place
 
-abbrev extent_of : List ℕ → List ℕ → Extent
+abbrev pub extent_of : List ℕ → List ℕ → Extent
 extent_of name content = record { name = length name; content = length content }
 
 entries_at : (es : List Extent) (bytes name : List ℕ) (place : Place) (p : IsPlace es bytes name place) → entries_of es bytes ≡ entries_of p.before p.head ++ (name, p.content) ∷ entries_of p.after p.tail
@@ -203,6 +207,10 @@ packed-exchanged es new_es bytes new_bytes name v place k p x =
 pub record Added (es new_es : List Extent) (bytes new_bytes name v : List ℕ) : Type 0 where
   pub extents_are : new_es ≡ es ++ extent_of name v ∷ []
   pub bytes_are : new_bytes ≡ (bytes ++ name) ++ v
+
+-- as `put` has it
+pub is_added : (es new_es : List Extent) (bytes new_bytes name v : List ℕ) → new_es ≡ es ++ extent_of name v ∷ [] → new_bytes ≡ (bytes ++ name) ++ v → Added es new_es bytes new_bytes name v
+is_added es new_es bytes new_bytes name v e b = record { extents_are = e; bytes_are = b }
 
 pub contents-added : (es new_es : List Extent) (bytes new_bytes name v : List ℕ) → IsPacked es bytes → held (contents_of es bytes) name ≡ None → Added es new_es bytes new_bytes name v → contents_of new_es new_bytes ≡ map.insert (contents_of es bytes) name v
 contents-added es new_es bytes new_bytes name v k none x =
@@ -328,11 +336,34 @@ FitsIn es bytes name v room names = (total (map.insert (contents_of es bytes) na
 le_from : (a b : ℕ) → IsTrue (nat_le a b) → a ≤ b
 le_from a b t = grind (arith, nat_tests)
 
-lt_from : (a b : ℕ) → IsTrue (nat_lt a b) → a < b
-lt_from a b t = grind (arith, nat_tests)
-
 le_test : (a b : ℕ) → a ≤ b → IsTrue (nat_le a b)
 le_test a b h = grind (arith, nat_tests)
+
+same_by : (r x y : Bool) → (IsTrue r → IsTrue x × IsTrue y) → (IsTrue x → IsTrue y → IsTrue r) → r ≡ (x && y)
+same_by true true true f g = refl
+same_by true true false f g = sym (f refl).1
+same_by true false y f g = sym (f refl).0
+same_by false true true f g = g refl refl
+same_by false true false f g = refl
+same_by false false y f g = refl
+
+-- a test that holds exactly where the two bounds do
+pub same_test : (r : Bool) (a b c d : ℕ) → IsTrue r ↔ ((a ≤ b) × (c ≤ d)) → r ≡ (nat_le a b && nat_le c d)
+same_test r a b c d h = same_by r (nat_le a b) (nat_le c d) (λ t. let bounds : (a ≤ b) × (c ≤ d) = h.0 t in (le_test a b bounds.0, le_test c d bounds.1)) (λ x y. h.1 (le_from a b x, le_from c d y))
+
+both : (x y : Bool) → IsTrue (x && y) → IsTrue x × IsTrue y
+both true true h = (refl, refl)
+both true false h = absurd (cc)
+both false y h = absurd (cc)
+
+abbrev pub table_of : List Extent → List ℕ → ℕ → ℕ → Table
+table_of es bytes room names = record { contents = contents_of es bytes; room = room; names = names }
+
+pub fits_facts : (es : List Extent) (bytes name v : List ℕ) (room names : ℕ) → IsTrue (fits (table_of es bytes room names) name v) → FitsIn es bytes name v room names
+fits_facts es bytes name v room names h = let two = both _ _ h in (le_from _ _ two.0, le_from _ _ two.1)
+
+lt_from : (a b : ℕ) → IsTrue (nat_lt a b) → a < b
+lt_from a b t = grind (arith, nat_tests)
 
 pub fits_old : (es : List Extent) (bytes name v : List ℕ) (place : Place) (room names size : ℕ) → IsPacked es bytes → IsPlace es bytes name place → size ≡ length bytes → size ≤ room → length es ≤ names → IsTrue (nat_le (length v) (room - size + (place.end - place.start))) ↔ FitsIn es bytes name v room names
 fits_old es bytes name v place room names size k p e w n =
@@ -375,3 +406,53 @@ room_new es bytes name v room names k none h n = record {
   bytes_fit = omega (arith, k.total, total-insert_new (contents_of es bytes) name v none);
   names_fit = omega (arith, k.count, len-insert_new (contents_of es bytes) name v none);
 }
+
+-- ---- the limits
+
+pub record Bounded (es : List Extent) (bytes : List ℕ) (room names : ℕ) : Type 0 where
+  pub bytes_fit : length bytes ≤ room
+  pub names_fit : length es ≤ names
+
+pub bounded : (es : List Extent) (bytes : List ℕ) (c : Contents) (room names : ℕ) → IsPacked es bytes → contents_of es bytes ≡ c → total c ≤ room → map.len c ≤ names → Bounded es bytes room names
+bounded es bytes c room names k e t n = record {
+  bytes_fit = omega (arith, k.total, ap total e);
+  names_fit = omega (arith, k.count, ap map.len e);
+}
+
+none_sum : (es : Entries) → length es ≡ 0 → sum_by (λ entry. length entry.0 + length entry.1) es ≡ 0
+none_sum [] e = refl
+none_sum (x ∷ es) e = absurd (omega arith)
+
+pub packed-empty : (es : List Extent) (bytes : List ℕ) → es ≡ [] → bytes ≡ [] → IsPacked es bytes
+packed-empty es bytes e b =
+    let none : contents_of es bytes ≡ map.empty = ap (λ xs. contents_of xs bytes) e in
+    let count : map.len (contents_of es bytes) ≡ 0 = ap map.len none ∙ map.len-empty (slice_cmp nat_cmp) (List ℕ) in
+    record {
+      sizes = ap (sum_by size) e ∙ sym (ap length b);
+      total = none_sum (map.entries (contents_of es bytes)) (sym (map.len-entries (contents_of es bytes)) ∙ count) ∙ sym (ap length b);
+      count = count ∙ sym (ap length e);
+    }
+
+-- ---- a part fits where the whole does
+
+both_test : (x y : Bool) → IsTrue x → IsTrue y → IsTrue (x && y)
+both_test true true p q = refl
+both_test true false p q = q
+both_test false y p q = absurd (cc)
+
+part_fits : (table : Table) (name v : List ℕ) (n : ℕ) → IsTrue (fits table name v) → IsTrue (fits table name (take n v))
+part_fits table name v n h =
+    let two : IsTrue (nat_le (total (map.insert table.contents name v)) table.room) × IsTrue (nat_le (map.len (map.insert table.contents name v)) table.names) = both _ _ h in
+    let bytes : total (map.insert table.contents name v) ≤ table.room = le_from _ _ two.0 in
+    let count : map.len (map.insert table.contents name v) ≤ table.names = le_from _ _ two.1 in
+    let part_bytes : total (map.insert table.contents name (take n v)) ≤ table.room = omega (arith, total-insert_part table.contents name v n) in
+    let part_count : map.len (map.insert table.contents name (take n v)) ≤ table.names = omega (arith, len-insert_part table.contents name v n) in
+    both_test _ _ (le_test _ _ part_bytes) (le_test _ _ part_count)
+
+some_part : (table : Table) (name v part : List ℕ) (stands : Option ℕ) → Some part ≡ option_map (λ n. take n v) stands → IsTrue (fits table name v) → IsTrue (fits table name part)
+some_part table name v part None e h = absurd (cc)
+some_part table name v part (Some n) e h = let same : part ≡ take n v = cc in subst (λ p. IsTrue (fits table name p)) (sym same) (part_fits table name v n h)
+
+pub standing_fits : (table : Table) (name v part : List ℕ) (fail : Option Fail) → Some part ≡ standing fail v → IsTrue (fits table name v) → IsTrue (fits table name part)
+standing_fits table name v part None e h = let same : part ≡ v = cc in subst (λ p. IsTrue (fits table name p)) (sym same) h
+standing_fits table name v part (Some fail) e h = some_part table name v part fail.stands e h

@@ -9,7 +9,7 @@ use Rattle.std.specs.FinMap.Entries.{length-put, by_order}
 use Rattle.std.proofs.lemmas.List.{length-take}
 use Rattle.std.proofs.lemmas.List.Sums.{sum_by-cons}
 use Rattle.xs_base.specs.Held.{Contents, held}
-use Rattle.xs_base.specs.Packed.{total}
+use Rattle.xs_base.specs.Table.{total}
 
 abbrev Entry : Type 0
 Entry = List ℕ × List ℕ

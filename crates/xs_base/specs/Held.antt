@@ -1,5 +1,6 @@
 -- What the names of files hold, and what a call on them leaves.
 use Rattle.std.specs.Prelude.{◌≡◌, ◌⊎◌, ◌≤◌, ℕ, List, take, Option, Some, None, Result, Err, OnOk, IfSome, ⊤}
+use Rattle.std.specs.Coded.{Coded, coded_list, coded_ℕ}
 use Rattle.std.specs.Ordering.{nat_cmp}
 use Rattle.std.specs.Cmp.Lexicographic.{slice_cmp}
 use Rattle.std.specs.FinMap as map
@@ -10,6 +11,10 @@ use Rattle.xs_base.specs.declared.files.FileFault.TheVariants.{Absent, Failed, M
 -- The bytes under each name that holds any. A name is given as the bytes of its text.
 abbrev pub Contents : Type 0
 Contents = map.FinMap (slice_cmp nat_cmp) (List ℕ)
+
+-- Contents are stored as the list of their entries.
+abbrev pub contents_code : Coded Contents
+contents_code = map.code (coded_list coded_ℕ) (coded_list coded_ℕ)
 
 -- What a name holds.
 abbrev pub held : Contents → List ℕ → Option (List ℕ)

@@ -4,4 +4,7 @@ pub mod Held
 pub mod Failing
 pub mod MemSink
 pub mod MemLines
+pub mod Table
 pub mod Packed
+pub mod TableInside
+pub mod MemFiles

@@ -3,8 +3,9 @@ use Rattle.std.specs.Prelude.{◌≡◌, ◌+◌, ℕ, List, [], ◌∷◌, ◌+
 use Rattle.std.specs.Str.{bytes_eq}
 use Rattle.std.specs.FinMap as map
 use Rattle.xs_base.specs.Held.{Contents}
-use Rattle.xs_base.specs.declared.packed.Extent.{Extent}
-use Rattle.xs_base.specs.declared.packed.Place.{Place}
+use Rattle.xs_base.specs.Table.{total}
+use Rattle.xs_base.specs.declared.extent.Extent.{Extent}
+use Rattle.xs_base.specs.declared.extent.Place.{Place}
 
 -- The bytes that a file takes.
 abbrev pub size : Extent → ℕ
@@ -22,10 +23,6 @@ contents_of extents bytes = map.from_entries (entries_of extents bytes)
 abbrev pub look : List ℕ → List (List ℕ × List ℕ) → Option (List ℕ)
 look name [] = None
 look name (entry ∷ entries) = cond (bytes_eq entry.0 name) (Some entry.1) (look name entries)
-
--- How many bytes names and contents have together.
-abbrev pub total : Contents → ℕ
-total contents = sum_by (λ entry. length entry.0 + length entry.1) (map.entries contents)
 
 -- The files fill the bytes, and no name stands twice.
 pub record IsPacked (extents : List Extent) (bytes : List ℕ) : Type 0 where

@@ -1,6 +1,6 @@
-use Rattle.std.proofs.Common.{◌≡◌, ◌++◌, rules, refl, arith}
+use Rattle.std.proofs.Common.{◌≡◌, ◌++◌, rules, arith}
 use Rattle.xs_base.proofs.Packing.{exchanged}
-use Rattle.xs_base.proofs.packed.edits.exchange.Goals as goal
+use Rattle.xs_base.proofs.packed.exchange.Goals as goal
 
 pub returns-clause-items : goal.returns-clause-items
 returns-clause-items c =

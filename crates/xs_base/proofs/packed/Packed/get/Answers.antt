@@ -1,9 +1,0 @@
-use Rattle.std.proofs.Common.{◌∙◌, Some, ap, sym}
-use Rattle.xs_base.proofs.Packing.{content_at, held_at}
-use Rattle.xs_base.proofs.packed.Packed.get.Goals as goal
-
-pub returns : goal.returns
-returns c =
-    let place = c.in_ok-place.ensures in
-    let shown = rw (c.split_at.ensures.front, c.deref.ensures.value) at c.split_at-2.ensures.back in
-    ap Some (shown ∙ content_at _ _ _ _ place) ∙ sym (held_at _ _ _ _ place)

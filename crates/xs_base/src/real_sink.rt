@@ -1,0 +1,40 @@
+ghost use Rattle.std.specs.Prelude.{None};
+
+use crate::{Sink, WriteFault};
+use std::io::Write;
+
+/// A sink over any writer of std. It tells no content. (Own rule.)
+///
+/// Each write is passed on whole and flushed; what is interrupted is tried again. A writer that takes
+/// nothing of a piece that isn't empty is a fault.
+#[derive(Drop)]
+pub struct RealSink<W> {
+    inner: W,
+    faults: u64,
+}
+
+impl<W: Write> RealSink<W> {
+    /// A sink that hands on to this writer. Takes no memory.
+    pub fn new(inner: W) -> RealSink<W> {
+        RealSink { inner, faults: 0 }
+    }
+}
+
+// Whether all of the bytes were taken.
+fn is_sent<W: Write>(to: &mut W, bytes: &[u8]) -> bool {
+    to.write_all(bytes).is_ok() && to.flush().is_ok()
+}
+
+impl<W: Write> Sink for RealSink<W> {
+    ghost written = { λ _. None };
+
+    ghost faults = { λ sink. sink.faults };
+
+    fn write(&mut self, bytes: &[u8]) -> Result<(), WriteFault> {
+        if is_sent(&mut self.inner, bytes) {
+            return Ok(());
+        }
+        self.faults = self.faults.saturating_add(1);
+        Err(WriteFault)
+    }
+}
