@@ -3,3 +3,4 @@ pub mod LineReads
 pub mod LineCuts
 pub mod Totals
 pub mod Packing
+mod Rows

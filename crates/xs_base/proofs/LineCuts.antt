@@ -1,5 +1,5 @@
 -- The cut of a line.
-use Rattle.std.proofs.Common.{◌≡◌, ◌≢◌, ◌==◌, ◌≤◌, ◌<◌, ◌+◌, ◌∙◌, ℕ, Bool, true, false, nat_lt, All, List, [], ◌∷◌, length, min, take, drop, Option, Some, None, MatchOption, cond, slice_index_or, ap, ap₂, refl, sym, subst, arith}
+use Rattle.std.proofs.Common.{◌≡◌, ◌≢◌, ◌≤◌, ◌<◌, ◌+◌, ◌∙◌, ℕ, Bool, true, false, nat_lt, All, List, [], ◌∷◌, length, min, take, drop, Option, Some, None, MatchOption, cond, slice_index_or, ap, ap₂, refl, sym, subst, arith}
 use Rattle.std.specs.List.{position, position_or_len}
 use Rattle.std.proofs.lemmas.Bool.Decides.{nat_tests}
 use Rattle.std.proofs.lemmas.List.{take_min, drop_min, take-take, length-take, get_or-take}

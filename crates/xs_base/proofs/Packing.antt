@@ -1,5 +1,5 @@
 -- Files one after another in one run of bytes, seen as a map from names to contents.
-use Rattle.std.proofs.Common.{◌≡◌, ◌↔◌, IsTrue, nat_le, nat_lt, ◌≤◌, ◌<◌, ◌&&◌, ◌+◌, ◌-◌, ◌++◌, ◌∙◌, suc, ℕ, Bool, true, false, cond, List, [], ◌∷◌, length, take, drop, sum_by, Option, Some, None, MatchOption, slice_index_or, ap, ap₂, sym, refl, subst, append_assoc, append-nil, length-append, take-append-drop, arith}
+use Rattle.std.proofs.Common.{◌≡◌, ◌↔◌, IsTrue, nat_le, nat_lt, ◌≤◌, ◌<◌, ◌&&◌, ◌+◌, ◌-◌, ◌++◌, ◌∙◌, ℕ, Bool, true, false, cond, List, [], ◌∷◌, length, take, drop, sum_by, Option, Some, None, slice_index_or, ap, ap₂, sym, refl, subst, append_assoc, append-nil, length-append, take-append-drop, arith}
 use Rattle.std.specs.Str.{bytes_eq}
 use Rattle.std.specs.Bool.{one_answer}
 use Rattle.std.specs.Ordering.{nat_cmp}
@@ -11,7 +11,7 @@ use Rattle.std.proofs.lemmas.Bool.Decides.{nat_tests}
 use Rattle.std.proofs.lemmas.Map.Text.{is_eq-slice_cmp}
 use Rattle.std.proofs.lemmas.Slice.Eq.{bytes_eq-Decides}
 use Rattle.std.proofs.lemmas.List.{length-take-le, length-drop, length-set, take_at, take_all, take_more, take-take, take-append-le, drop_at, drop-drop, drop-append-le, drop_more, set_at, get_or_at}
-use Rattle.std.proofs.lemmas.List.Sums.{sum_by-cons, sum_by-append, sum_by_push, sum_by_more, sum_by_more_le}
+use Rattle.std.proofs.lemmas.List.Sums.{sum_by-cons, sum_by-append, sum_by_push, sum_by_more_le}
 use Rattle.xs_base.specs.Held.{Contents, held}
 use Rattle.xs_base.specs.Packed.{size, entries_of, contents_of, look, IsPacked, IsPlace}
 use Rattle.xs_base.specs.Table.{Table, total, fits}

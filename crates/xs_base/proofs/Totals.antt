@@ -1,5 +1,5 @@
 -- How many bytes names and contents have together, as a name is put.
-use Rattle.std.proofs.Common.{◌≡◌, ◌≤◌, ◌+◌, ◌&&◌, ◌∙◌, min, ℕ, Bool, true, false, cond, is_some, T, List, [], ◌∷◌, length, take, sum_by, Option, Some, None, ap, sym, refl, subst, arith}
+use Rattle.std.proofs.Common.{◌≡◌, ◌≤◌, ◌+◌, ◌&&◌, ◌∙◌, ℕ, Bool, true, false, cond, is_some, T, List, [], ◌∷◌, length, take, sum_by, Option, Some, None, ap, sym, refl, arith}
 use Rattle.std.specs.declared.cmp.Ordering.{Ordering}
 use Rattle.std.specs.declared.cmp.Ordering.TheVariants.{Less, Equal, Greater}
 use Rattle.std.specs.Ordering.{nat_cmp, is_eq}

@@ -1,5 +1,5 @@
 -- Which calls of an object in memory fail, and what stands of a write. Calls are counted from 1.
-use Rattle.std.specs.Prelude.{◌==◌, ◌+◌, ◌-◌, ◌^◌, ℕ, Bool, if◌then◌else◌, min, List, [], find, take, Option, Some, None}
+use Rattle.std.specs.Prelude.{◌==◌, ◌+◌, ◌-◌, ◌^◌, ℕ, Bool, if◌then◌else◌, min, List, find, Option}
 use Rattle.xs_base.specs.declared.fails.Fail.{Fail}
 
 -- One more, or the last value of a `u64`, at which a count stands still.

@@ -8,3 +8,4 @@ pub mod Table
 pub mod Packed
 pub mod TableInside
 pub mod MemFiles
+pub mod RealFiles

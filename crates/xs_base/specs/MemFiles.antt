@@ -1,12 +1,12 @@
 -- Files in memory, and what the calls make of them.
-use Rattle.std.specs.Prelude.{◌||◌, ℕ, Bool, not, nat_lt, if◌then◌else◌, is_some, is_none, List, length, take, Option, Some, None, refl}
+use Rattle.std.specs.Prelude.{◌||◌, ℕ, Bool, not, nat_lt, if◌then◌else◌, is_some, is_none, List, length, take, Option, Some, None}
 use Rattle.std.specs.Option.{option_map}
 use Rattle.std.specs.FinMap as map
 use Rattle.xs_base.specs.declared.fails.Fail.{Fail}
 use Rattle.xs_base.specs.declared.files.FileFault.{FileFault}
 use Rattle.xs_base.specs.declared.files.FileFault.TheVariants.{Absent, Failed}
 use Rattle.xs_base.specs.Failing.{counted, counted_if, failing}
-use Rattle.xs_base.specs.Held.{Contents, held}
+use Rattle.xs_base.specs.Held.{held}
 use Rattle.xs_base.specs.Table.{Table, fits}
 
 -- The table of files, the calls that fail, and the counts of calls, of faults and of names that held nothing.

@@ -1,5 +1,4 @@
-use Rattle.std.proofs.Common.{◌≡◌, subst, arith}
-use Rattle.xs_base.specs.Table.{Table, fits}
+use Rattle.std.proofs.Common.{arith}
 use Rattle.xs_base.proofs.Packing.{fits_old, fits_new, fits_no_more, same_test}
 use Rattle.xs_base.proofs.file_table.FileTable.fits.Goals as goal
 

@@ -1,8 +1,7 @@
 use Rattle.std.proofs.Common.{◌≡◌, ◌++◌, IsTrue, ap, sym, subst, arith, rules}
-use Rattle.std.specs.FinMap as map
 use Rattle.xs_base.specs.Held.{Contents}
 use Rattle.xs_base.specs.Table.{Table, fits}
-use Rattle.xs_base.proofs.Packing.{FitsIn, fits_facts, room_old, room_new, is_exchanged, contents-exchanged, packed-exchanged, is_added, contents-added, packed-added, bounded}
+use Rattle.xs_base.proofs.Packing.{fits_facts, room_old, room_new, is_exchanged, contents-exchanged, packed-exchanged, is_added, contents-added, packed-added, bounded}
 use Rattle.xs_base.proofs.file_table.FileTable.put.Goals as goal
 
 pub exchange-requires-clause-room : goal.exchange-requires-clause-room
