@@ -6,7 +6,7 @@ use Rattle.std.proofs.lemmas.List.{take_min, drop_min, take-take, length-take, g
 use Rattle.std.proofs.lemmas.List.Sums.{fails_before_first}
 use Rattle.xs_base.specs.Line.{next_line, cut_at, is_line_feed, most, IsLine}
 
-next_line-nonempty : (bytes : List ℕ) → 0 < length bytes → next_line bytes ≡ Some (cut_at (position is_line_feed (take most bytes)) bytes)
+pub next_line-nonempty : (bytes : List ℕ) → 0 < length bytes → next_line bytes ≡ Some (cut_at (position is_line_feed (take most bytes)) bytes)
 next_line-nonempty [] h = absurd (omega arith)
 next_line-nonempty (b ∷ bytes) h = refl
 

@@ -250,11 +250,11 @@ parts : (bytes : List ℕ) (start : ℕ) (e : Extent) → bytes ≡ take start b
 parts bytes start e =
     sym (take-append-drop start bytes)
     ∙ ap (λ r. take start bytes ++ r) (
-      sym (take-append-drop e.name (drop start bytes))
-      ∙ ap (λ r. name_at bytes start e ++ r) (
-        drop-drop e.name start bytes
-        ∙ sym (take-append-drop e.content (drop (start + e.name) bytes))
-        ∙ ap (λ r. content_from bytes start e ++ r) (drop-drop e.content (start + e.name) bytes)))
+    sym (take-append-drop e.name (drop start bytes))
+    ∙ ap (λ r. name_at bytes start e ++ r) (
+    drop-drop e.name start bytes
+    ∙ sym (take-append-drop e.content (drop (start + e.name) bytes))
+    ∙ ap (λ r. content_from bytes start e ++ r) (drop-drop e.content (start + e.name) bytes)))
 
 -- the numbers of a file that lies within the bytes
 record Fit (bytes : List ℕ) (start : ℕ) (e : Extent) : Type 0 where
@@ -370,8 +370,7 @@ fits_old es bytes name v place room names size k p e w n =
     let order : InOrder es bytes place (length p.content) = in_order es bytes name place p in
     let found : held (contents_of es bytes) name ≡ Some p.content = held_at es bytes name place p in
     let grown : total (map.insert (contents_of es bytes) name v) + length p.content ≡ total (contents_of es bytes) + length v = total-insert_old (contents_of es bytes) name v p.content found in
-    let count : map.len (map.insert (contents_of es bytes) name v) ≡ map.len (contents_of es bytes) = len-insert_old (contents_of es bytes) name v p.content found in
-    (
+    let count : map.len (map.insert (contents_of es bytes) name v) ≡ map.len (contents_of es bytes) = len-insert_old (contents_of es bytes) name v p.content found in (
       λ t. let small : length v ≤ room - size + (place.end - place.start) = le_from _ _ t in (omega (arith, k.total, order.end, order.within), omega (arith, k.count)),
       λ fits. le_test _ _ (omega (arith, k.total, order.end, order.within, fits.0)),
     )
@@ -379,8 +378,7 @@ fits_old es bytes name v place room names size k p e w n =
 pub fits_new : (es : List Extent) (bytes name v : List ℕ) (room names size : ℕ) → IsPacked es bytes → held (contents_of es bytes) name ≡ None → size ≡ length bytes → size ≤ room → length es < names → IsTrue (nat_le (length name + length v) (room - size)) ↔ FitsIn es bytes name v room names
 fits_new es bytes name v room names size k none e w n =
     let grown : total (map.insert (contents_of es bytes) name v) ≡ total (contents_of es bytes) + (length name + length v) = total-insert_new (contents_of es bytes) name v none in
-    let count : map.len (map.insert (contents_of es bytes) name v) ≡ map.len (contents_of es bytes) + 1 = len-insert_new (contents_of es bytes) name v none in
-    (
+    let count : map.len (map.insert (contents_of es bytes) name v) ≡ map.len (contents_of es bytes) + 1 = len-insert_new (contents_of es bytes) name v none in (
       λ t. let small : length name + length v ≤ room - size = le_from _ _ t in (omega (arith, k.total), omega (arith, k.count)),
       λ fits. le_test _ _ (omega (arith, k.total, fits.0)),
     )

@@ -1,5 +1,5 @@
 -- One line of an input, and several.
-use Rattle.std.specs.Prelude.{◌≡◌, ◌≢◌, ◌==◌, ◌+◌, ◌≤◌, ℕ, Bool, true, false, All, List, [], ◌∷◌, length, take, drop, Option, Some, None, Result, MatchResult, IfSome, ⊤}
+use Rattle.std.specs.Prelude.{◌≡◌, ◌≢◌, ◌==◌, ◌+◌, ◌≤◌, ℕ, Bool, true, false, All, List, [], ◌∷◌, ◌++◌, nat_lt, if◌then◌else◌, length, take, drop, Option, Some, None, Result, MatchResult, IfSome, ⊤}
 use Rattle.std.specs.List.{position}
 use Rattle.std.specs.Io.KnownBytes.{Keeps}
 
@@ -43,3 +43,12 @@ TakesLines bytes rest (line ∷ lines) = (after : List ℕ) × (next_line bytes 
 abbrev pub Took : Option (List ℕ) → Option (List ℕ) → List (List ℕ) → Type 0
 Took None new lines = ⊤
 Took (Some bytes) new lines = (rest : List ℕ) × (new ≡ Some rest) × TakesLines bytes rest lines
+
+-- The bytes that give a line where more may follow: behind one that is as long as a line may be stands no line feed.
+abbrev pub spelled : List ℕ → List ℕ
+spelled line = if nat_lt (length line) most then line ++ 10 ∷ [] else line
+
+-- An input that gives these lines, one after another, before the rest.
+abbrev pub input_of : List (List ℕ) → List ℕ → List ℕ
+input_of [] rest = rest
+input_of (line ∷ lines) rest = spelled line ++ input_of lines rest

@@ -25,3 +25,6 @@ pub use real_files::RealFiles;
 pub use real_lines::RealLines;
 pub use real_sink::RealSink;
 pub use sink::{Sink, WriteFault};
+
+#[cfg(test)]
+mod tests;
