@@ -1,0 +1,7 @@
+pub mod Writes
+pub mod LineReads
+pub mod LineCuts
+pub mod Inputs
+pub mod Totals
+pub mod Packing
+mod Rows

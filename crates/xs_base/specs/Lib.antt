@@ -1,0 +1,11 @@
+pub mod Outside
+pub mod Line
+pub mod Held
+pub mod Failing
+pub mod MemSink
+pub mod MemLines
+pub mod Table
+pub mod Packed
+pub mod TableInside
+pub mod MemFiles
+pub mod RealFiles
