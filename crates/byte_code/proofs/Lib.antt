@@ -1,0 +1,5 @@
+pub mod Rows
+pub mod Reading
+pub mod Decoding
+pub mod Laws
+mod Samples

@@ -1,0 +1,13 @@
+//! The instructions of compiled modules: their bytes, the records of compiled modules, and the test
+//! of code that no compiler of this project wrote.
+#![tactic(auto)]
+
+mod bytes;
+mod instruction;
+mod operand;
+
+pub use bytes::CodeBytes;
+pub use instruction::{Op, decode, encode, length};
+
+#[cfg(test)]
+mod tests;
