@@ -3,3 +3,4 @@ pub mod Reading
 pub mod Decoding
 pub mod Laws
 mod Samples
+pub mod Starts

@@ -3,10 +3,14 @@
 #![tactic(auto)]
 
 mod bytes;
+mod effect;
+mod frame;
 mod instruction;
 mod operand;
+mod validity;
 
 pub use bytes::CodeBytes;
+pub use frame::Frame;
 pub use instruction::{Op, decode, encode, length};
 
 #[cfg(test)]

@@ -80,11 +80,13 @@ const ROWS: [(Op, &[u8]); 68] = [
 #[test]
 fn every_row_is_written_and_read(rt: HostRuntime) -> Result<(), Fail> {
     for (op, bytes) in ROWS {
+        let (found, count) = decode(bytes, 0).ok_or("no instruction")?;
+        assert!(rt; found == op);
+        assert_eq!(rt; count, bytes.len());
+        assert_eq!(rt; length(found), bytes.len());
         let mut code = CodeBytes::new(rt.alloc());
-        encode(&mut code, op)?;
+        encode(&mut code, found)?;
         assert_eq!(rt; code.as_slice(), bytes);
-        assert_eq!(rt; length(op), bytes.len());
-        assert!(rt; decode(bytes, 0) == Some((op, bytes.len())));
     }
     Ok(())
 }
