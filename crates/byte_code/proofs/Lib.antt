@@ -4,3 +4,6 @@ pub mod Decoding
 pub mod Laws
 mod Samples
 pub mod Starts
+pub mod Entering
+pub mod Refusing
+pub mod Keeping

@@ -1,10 +1,10 @@
 -- What the one pass over a code keeps: a height for each instruction that it has passed, and for each
 -- later one to which a passed instruction jumps.
-use Rattle.std.specs.Prelude.{◌≡◌, ◌<◌, ◌≤◌, ℕ, ◌+◌, ◌==◌, if◌then◌else◌, Bool, true, false, List, length, Option, Some, None, slice_index, slice_index_or, slice_set}
+use Rattle.std.specs.Prelude.{◌≡◌, ◌<◌, ◌≤◌, ℕ, ◌+◌, ◌==◌, if◌then◌else◌, Bool, true, false, List, length, Option, Some, None, IsSome, slice_index, slice_index_or, slice_set, ◌*◌}
 use Rattle.byte_code.specs.declared.instruction.Op.{Op}
 use Rattle.byte_code.specs.Instructions.{parts, spelling}
 use Rattle.byte_code.specs.Effects.{Effect, effect}
-use Rattle.byte_code.specs.ValidCode.{Bounds, IsStart, At, Way, IsHandler, FollowsEnd, IsJumpedTo, IsInBounds, target, goes_on, end_of, height_after}
+use Rattle.byte_code.specs.ValidCode.{Bounds, IsStart, At, Way, IsHandler, FollowsEnd, IsJumpedTo, IsInBounds, range_start, range_end, handler_target, target, goes_on, end_of, height_after}
 
 -- the height that is known at p
 abbrev pub known : List (Option ℕ) → ℕ → Option ℕ
@@ -75,3 +75,25 @@ pub data Marks (code : List ℕ) (old new : List (Option ℕ)) (at to g : ℕ) :
 pub data Refuses (code : List ℕ) (old : List (Option ℕ)) (at to g : ℕ) : Type 0 where
   NoTurn : to ≤ at → (g ≡ 0 → known old to ≡ Some 0 → slice_index code to ≡ 51 → ⊥) → Refuses code old at to g
   NoPlace : at < to → (to < length code → Agrees (known old to) g → ⊥) → Refuses code old at to g
+
+-- the same for an instruction that jumps, or doesn't
+abbrev pub Takes : List ℕ → List (Option ℕ) → List (Option ℕ) → ℕ → Option ℕ → ℕ → Type 0
+Takes code old new at None g = new ≡ old
+Takes code old new at (Some to) g = Marks code old new at to g
+
+abbrev pub RefusesAny : List ℕ → List (Option ℕ) → ℕ → Option ℕ → ℕ → Type 0
+RefusesAny code old at None g = ⊥
+RefusesAny code old at (Some to) g = Refuses code old at to g
+
+-- what is asked of a handler once all instructions have a height
+pub record HandlerFits (heights : List (Option ℕ)) (size : ℕ) (handlers : List ℕ) (k : ℕ) : Type 0 where
+  pub after_start : range_start handlers k < handler_target handlers k
+  pub after_end : range_end handlers k ≤ handler_target handlers k
+  pub inside : handler_target handlers k < size
+  pub start : IsSome (known heights (range_start handlers k))
+  pub end : IsSome (known heights (range_end handlers k))
+  pub target : IsSome (known heights (handler_target handlers k))
+
+pub record HandlersFit (heights : List (Option ℕ)) (size : ℕ) (handlers : List ℕ) : Type 0 where
+  pub whole : (n : ℕ) × (length handlers ≡ 6 * n)
+  pub each : (k : ℕ) → 6 * k + 6 ≤ length handlers → HandlerFits heights size handlers k

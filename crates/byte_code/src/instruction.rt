@@ -219,6 +219,13 @@ fn number_and_operand(op: Op) -> (u8, Operand)
     instructions!(parts op)
 }
 
+/// The operand of an instruction.
+pub fn operand(op: Op) -> Operand
+    ensures { result ≡ (parts op).1 }
+{
+    number_and_operand(op).1
+}
+
 /// The instruction of a number, with the operand that follows it. None exactly where no instruction
 /// has the number.
 fn instruction_of(number: u8, after: Following) -> Option<Op>

@@ -12,6 +12,7 @@ mod validity;
 pub use bytes::CodeBytes;
 pub use frame::Frame;
 pub use instruction::{Op, decode, encode, length};
+pub use validity::valid;
 
 #[cfg(test)]
 mod tests;
