@@ -7,3 +7,6 @@ pub mod Starts
 pub mod Entering
 pub mod Refusing
 pub mod Keeping
+pub mod Kept
+pub mod Sound
+pub mod Passing

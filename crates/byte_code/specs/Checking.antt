@@ -63,7 +63,6 @@ pub record Pass (code : List ℕ) (b : Bounds) (heights : List (Option ℕ)) (at
   pub starts : (q g : ℕ) → known heights q ≡ Some g → q < at → IsStart code q
   pub ahead : (q g : ℕ) → known heights q ≡ Some g → at ≤ q → IsJumpedTo code q
   pub came : Came code b.handlers at before
-  pub before_room : (g : ℕ) → before ≡ Some g → g ≤ b.operands
   pub each : (p : ℕ) (op : Op) → At code p op → p < at → Passed code b heights at before p op
 
 -- what a jump from `at` to `to` with height g leaves
