@@ -1,14 +1,14 @@
 -- The height with which the pass enters an instruction, and why a refusal is right.
-use Rattle.std.proofs.Common.{◌≡◌, ◌<◌, ◌≤◌, ◌⊎◌, ◌↔◌, ℕ, zero, suc, ◌+◌, ◌-◌, List, ◌∷◌, ◌++◌, length, drop, Bool, true, false, IsTrue, Option, Some, None, inl, inr, refl, sym, ap, subst, ◌∙◌, arith, get_or, set, nat_eq, eq-eqb, cond}
-use Rattle.std.proofs.lemmas.List.{get_or-drop, get_or-set_same, get_or-set_other}
-use Rattle.std.proofs.lemmas.Bool.{cases_order, cases_lt, cases_eq, eqb-true}
+use Rattle.std.proofs.Common.{◌≡◌, ℕ, ◌+◌, List, drop, Bool, true, false, Option, Some, None, refl, sym, ap, subst, ◌∙◌, arith, get_or, nat_eq, cond}
+use Rattle.std.proofs.lemmas.List.{get_or-drop}
+use Rattle.std.proofs.lemmas.Bool.{eqb-true}
 use Rattle.byte_code.specs.declared.instruction.Op.{Op}
-use Rattle.byte_code.specs.declared.instruction.Op.TheVariants.{Jump, Return, Throw, Turn}
-use Rattle.byte_code.specs.Instructions.{parts, spelling, IsInstruction, Begins}
-use Rattle.byte_code.specs.Effects.{Effect, effect}
-use Rattle.byte_code.specs.ValidCode.{Bounds, IsStart, First, After, At, Stands, Way, Begin, Next, Along, Thrown, Behind, IsHandler, FollowsEnd, IsJumpedTo, IsValid, target, goes_on, end_of, height_after}
-use Rattle.byte_code.specs.Checking.{known, Agrees, entry, Came, Began, Fell, Ended, Passed, Pass, IsFallenTo, Marks, Back, Ahead, Refuses, NoTurn, NoPlace}
-use Rattle.byte_code.proofs.Starts.{one_op, order, same_end, stands_before, ends_inside, at_inside}
+use Rattle.byte_code.specs.declared.instruction.Op.TheVariants.{Jump, Return, Throw}
+use Rattle.byte_code.specs.Instructions.{parts, Begins}
+use Rattle.byte_code.specs.Effects.{effect}
+use Rattle.byte_code.specs.ValidCode.{Bounds, At, Way, Begin, Next, Thrown, Behind, IsHandler, IsJumpedTo, goes_on, height_after}
+use Rattle.byte_code.specs.Checking.{known, entry, Came, Began, Fell, Ended, Pass, IsFallenTo}
+use Rattle.byte_code.proofs.Starts.{at_inside}
 
 -- The pass enters the instruction at `at` with a height.
 pub record Entering (code : List ℕ) (b : Bounds) (heights : List (Option ℕ)) (at : ℕ) (before : Option ℕ) (handler : Bool) (op : Op) (height : ℕ) : Type 0 where
@@ -107,9 +107,10 @@ enter_way code b heights at before handler op height e =
         let none : 0 ≡ height = cc in
         let no : IsHandler b.handlers at → ⊥ = λ h. let y : handler ≡ true = e.no h in cc in
         elim e.pass.came [
-          Began z x ↦ cc
-        | Fell r2 h o s goes end w is ↦ cc
-        | Ended f x ↦ subst (λ v. Way code b.handlers at v) none (Behind at f (at_inside code at op e.here) (no_jump code b heights at before e.pass r) no) ]
+          | Began z x ↦ cc
+          | Fell r2 h o s goes end w is ↦ cc
+          | Ended f x ↦ subst (λ v. Way code b.handlers at v) none (Behind at f (at_inside code at op e.here) (no_jump code b heights at before e.pass r) no)
+        ]
 
 -- an instruction's first byte is its number
 pub first_byte : (code : List ℕ) (p : ℕ) (op : Op) → Begins (drop p code) op → get_or code p 0 ≡ (parts op).0

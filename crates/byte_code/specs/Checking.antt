@@ -2,8 +2,8 @@
 -- later one to which a passed instruction jumps.
 use Rattle.std.specs.Prelude.{◌≡◌, ◌<◌, ◌≤◌, ℕ, ◌+◌, ◌==◌, if◌then◌else◌, Bool, true, false, List, length, Option, Some, None, IsSome, slice_index, slice_index_or, slice_set, ◌*◌}
 use Rattle.byte_code.specs.declared.instruction.Op.{Op}
-use Rattle.byte_code.specs.Instructions.{parts, spelling}
-use Rattle.byte_code.specs.Effects.{Effect, effect}
+use Rattle.byte_code.specs.Instructions.{parts}
+use Rattle.byte_code.specs.Effects.{effect}
 use Rattle.byte_code.specs.ValidCode.{Bounds, IsStart, At, Way, IsHandler, FollowsEnd, IsJumpedTo, IsInBounds, range_start, range_end, handler_target, target, goes_on, end_of, height_after}
 
 -- the height that is known at p

@@ -1,12 +1,12 @@
 -- Valid code: code on which a machine is never stuck, and whose every way back passes a `turn`.
-use Rattle.std.specs.Prelude.{◌≡◌, ◌≢◌, ◌<◌, ◌≤◌, ℤ, pos, negsuc, ℕ, ◌+◌, ◌-◌, ◌*◌, ◌⊎◌, Bool, true, false, List, length, drop, Option, Some, None}
+use Rattle.std.specs.Prelude.{◌≡◌, ◌<◌, ◌≤◌, ℤ, pos, negsuc, ℕ, ◌+◌, ◌-◌, ◌*◌, Bool, true, false, List, length, drop, Option, Some, None}
 use Rattle.byteorder.specs.Endian.{big_number}
 use Rattle.byte_code.specs.declared.operand.Operand.{Operand}
 use Rattle.byte_code.specs.declared.operand.Operand.TheVariants as operand
 use Rattle.byte_code.specs.declared.instruction.Op.{Op}
 use Rattle.byte_code.specs.declared.instruction.Op.TheVariants.{Jump, JumpIf, JumpUnless, JumpValue, Turn, Return, Throw}
 use Rattle.byte_code.specs.Instructions.{parts, spelling, IsInstruction, Begins}
-use Rattle.byte_code.specs.Effects.{Effect, effect}
+use Rattle.byte_code.specs.Effects.{effect}
 
 -- The counts that bound a code's operands, and its handlers: for each, innermost first, the start
 -- and the end of its range and its target, two bytes each.

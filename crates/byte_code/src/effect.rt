@@ -48,12 +48,9 @@ pub fn effect(op: Op) -> Change
         | Op::JumpValue(_)
         | Op::Return
         | Op::Throw => Change { pops: 1, pushes: 0 },
-        Op::Dup
-        | Op::ClassExtends(_) => Change { pops: 1, pushes: 2 },
+        Op::Dup | Op::ClassExtends(_) => Change { pops: 1, pushes: 2 },
         Op::Dup2 => Change { pops: 2, pushes: 4 },
-        Op::Swap
-        | Op::ToKey
-        | Op::NameIt(_) => Change { pops: 2, pushes: 2 },
+        Op::Swap | Op::ToKey | Op::NameIt(_) => Change { pops: 2, pushes: 2 },
         Op::Rot3 => Change { pops: 3, pushes: 3 },
         Op::Rot4 => Change { pops: 4, pushes: 4 },
         Op::LocalCheck(_)
@@ -79,13 +76,23 @@ pub fn effect(op: Op) -> Change
         | Op::InstanceOf
         | Op::Binary(_)
         | Op::Append => Change { pops: 2, pushes: 1 },
-        Op::SetKey
-        | Op::SuperSetKey
-        | Op::Define(_) => Change { pops: 3, pushes: 1 },
-        Op::Join(count) => Change { pops: count as u16, pushes: 1 },
-        Op::SuperCall(count) => Change { pops: count as u16, pushes: 1 },
-        Op::Call(count) => Change { pops: count as u16 + 2, pushes: 1 },
-        Op::New(count) => Change { pops: count as u16 + 1, pushes: 1 },
+        Op::SetKey | Op::SuperSetKey | Op::Define(_) => Change { pops: 3, pushes: 1 },
+        Op::Join(count) => Change {
+            pops: count as u16,
+            pushes: 1,
+        },
+        Op::SuperCall(count) => Change {
+            pops: count as u16,
+            pushes: 1,
+        },
+        Op::Call(count) => Change {
+            pops: count as u16 + 2,
+            pushes: 1,
+        },
+        Op::New(count) => Change {
+            pops: count as u16 + 1,
+            pushes: 1,
+        },
         Op::Method(_) => Change { pops: 2, pushes: 3 },
         Op::Class(_) => Change { pops: 0, pushes: 2 },
     }

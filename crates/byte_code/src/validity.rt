@@ -10,8 +10,8 @@ ghost use Rattle.byte_code.specs.Checking.{known, Agrees, entry, Pass, Marks, Re
 ghost use Rattle.byte_code.specs.Frames.{bounds_of};
 
 use crate::effect::{effect, goes_on, jump_target};
-use crate::frame::{handler_at, is_handler, is_in_bounds, Frame, HANDLER_BYTES};
-use crate::instruction::{decode, operand, Op};
+use crate::frame::{Frame, HANDLER_BYTES, handler_at, is_handler, is_in_bounds};
+use crate::instruction::{Op, decode, operand};
 
 /// The most bytes of a code.
 pub const CODE_BYTES: usize = 65_535;
@@ -120,12 +120,7 @@ struct Front {
 }
 
 /// Passes one instruction. None where the code isn't valid.
-fn step(
-    code: &[u8],
-    frame: Frame<'_>,
-    front: Front,
-    heights: &mut [Option<u16>],
-) -> Option<Front>
+fn step(code: &[u8], frame: Frame<'_>, front: Front, heights: &mut [Option<u16>]) -> Option<Front>
     requires within { front.at < length code.now }
     requires pass { Pass code.now (bounds_of frame) heights.old front.at front.before }
     ensures some { IfSome result (λ next. Pass code.now (bounds_of frame.entry) heights.new next.at next.before × (front.at < next.at) × (next.at ≤ length code.now)) }
@@ -178,7 +173,11 @@ fn handler_fits(handlers: &[u8], place: usize, size: usize, heights: &[Option<u1
     ensures { IsTrue result ↔ HandlerFits heights.now size handlers.now place }
 {
     let handler = handler_at(handlers, place);
-    let (from, to, target) = (handler.from as usize, handler.to as usize, handler.target as usize);
+    let (from, to, target) = (
+        handler.from as usize,
+        handler.to as usize,
+        handler.target as usize,
+    );
     if from >= target || to > target || target >= size {
         return false;
     }
