@@ -10,3 +10,5 @@ pub mod Keeping
 pub mod Kept
 pub mod Sound
 pub mod Passing
+pub mod Renames
+pub mod Renamed

@@ -4,3 +4,4 @@ pub mod Effects
 pub mod ValidCode
 pub mod Checking
 pub mod Frames
+pub mod Renaming

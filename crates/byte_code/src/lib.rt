@@ -6,12 +6,21 @@ mod bytes;
 mod effect;
 mod frame;
 mod instruction;
+mod list;
 mod operand;
+mod records;
+mod renaming;
 mod validity;
 
 pub use bytes::CodeBytes;
 pub use frame::Frame;
 pub use instruction::{Op, decode, encode, length};
+pub use list::CodeList;
+pub use records::{
+    CodeCapture, CodeExport, CodeHoist, CodeImport, FunctionCode, ModuleCode, Modules, NameText,
+    Plan, Target,
+};
+pub use renaming::rename;
 pub use validity::valid;
 
 #[cfg(test)]

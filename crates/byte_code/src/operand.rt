@@ -1,9 +1,9 @@
 //! What stands after an instruction's number, and its bytes. The widths of all operands are here.
 #![tactic(auto)]
 
-ghost use Rattle.std.specs.Prelude.{◌≡◌, ◌≤◌, ◌<◌, ℕ, ◌∷◌, ◌++◌, length, drop, slice_index};
+ghost use Rattle.std.specs.Prelude.{◌≡◌, ◌≤◌, ◌<◌, ℕ, ◌+◌, ◌∷◌, ◌++◌, length, take, drop, slice_index};
 ghost use Rattle.byteorder.specs.Endian.{big_bytes};
-ghost use Rattle.byte_code.specs.Operands.{operand_bytes, IsFollowing};
+ghost use Rattle.byte_code.specs.Operands.{operand_bytes, name_bytes, IsFollowing};
 
 use byteorder::{BigEndian, ByteOrder};
 
@@ -136,4 +136,13 @@ fn padded(bytes: &[u8]) -> [u8; MOST_BYTES]
     let count = bytes.len().min(MOST_BYTES);
     front[..count].copy_from_slice(&bytes[..count]);
     front
+}
+
+/// Writes a name's number over the bytes at a place.
+pub fn write_name(bytes: &mut [u8], at: usize, number: u16)
+    requires { at + 2 ≤ length bytes.old }
+    ensures { bytes.new ≡ take at bytes.old ++ (name_bytes number ++ drop (at + 2) bytes.old) }
+{
+    let (_, from) = bytes.split_at_mut(at);
+    BigEndian::write_u16(from, number);
 }
