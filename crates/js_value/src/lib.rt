@@ -1,0 +1,6 @@
+//! Texts and numbers of the language.
+#![tactic(auto)]
+
+mod text;
+
+pub use text::Units;
