@@ -3,3 +3,5 @@ pub mod Codes
 pub mod View
 pub mod Falls
 pub mod ModuleView
+pub mod Nesting
+pub mod Functions

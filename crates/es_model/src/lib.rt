@@ -3,12 +3,14 @@
 
 mod items;
 mod kinds;
+mod measure;
 mod names;
 mod token;
 mod tree;
 
 pub use items::{Default, Item, Module};
 pub use kinds::{BinaryOperator, FunctionKind, MemberKind, Semi, UnaryOperator};
+pub use measure::{function_count, nesting};
 pub use names::{Identifier, Pair};
 pub use token::{Token, TokenKind, Tokens};
 pub use tree::{
