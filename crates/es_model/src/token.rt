@@ -7,7 +7,7 @@ use std::marker::Model;
 
 /// What a token is (ECMA-262, 12). The number of a keyword or a sign is its place in the list of
 /// keywords or of signs, from 0.
-#[derive(Debug, Drop)]
+#[derive(Drop)]
 pub enum TokenKind {
     Name(Units),
     Keyword(u8),
@@ -29,7 +29,7 @@ pub enum TokenKind {
 
 /// A token. `at` is the place of its first byte in the text, from 0, and `line_before` says that
 /// a line break stands before it, after the token before.
-#[derive(Debug, Drop)]
+#[derive(Drop)]
 pub struct Token {
     pub kind: TokenKind,
     pub at: u32,
@@ -37,7 +37,7 @@ pub struct Token {
 }
 
 /// A list of tokens.
-#[derive(Debug, Drop)]
+#[derive(Drop)]
 pub struct Tokens {
     items: Vec<Token>,
 }
