@@ -5,3 +5,4 @@ pub mod Falls
 pub mod ModuleView
 pub mod Nesting
 pub mod Functions
+pub mod Tokens

@@ -1,6 +1,7 @@
 //! The syntax of the language: tokens and trees, and what ECMA-262 says of them.
 #![tactic(auto)]
 
+mod faults;
 mod items;
 mod kinds;
 mod measure;
@@ -8,6 +9,7 @@ mod names;
 mod token;
 mod tree;
 
+pub use faults::LexFault;
 pub use items::{Default, Item, Module};
 pub use kinds::{BinaryOperator, FunctionKind, MemberKind, Semi, UnaryOperator};
 pub use measure::{function_count, nesting};
