@@ -6,3 +6,6 @@ pub mod ModuleView
 pub mod Nesting
 pub mod Functions
 pub mod Tokens
+pub mod Readings
+pub mod Levels
+pub mod Spelling
