@@ -9,3 +9,5 @@ pub mod Tokens
 pub mod Readings
 pub mod Levels
 pub mod Spelling
+pub mod Scopes
+pub mod EarlyRules

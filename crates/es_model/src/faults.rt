@@ -21,3 +21,38 @@ pub enum LexFault {
     /// Want of memory.
     Memory,
 }
+
+/// The first early rule that a module breaks (ECMA-262, 13 to 16, and the language's own rules),
+/// with the place of the byte that it names, from 0: where the later of two things, or the thing
+/// itself, begins.
+#[derive(Clone, Copy, Debug, PartialEq, Eq)]
+pub enum EarlyFault {
+    /// Two bindings of one name in one scope: the later name.
+    DuplicateName(u32),
+    /// One exported name twice: the later name, or the word `default`.
+    DuplicateExport(u32),
+    /// An exported name that the module's top doesn't bind: the name.
+    ExportUndeclared(u32),
+    /// A binding of, or a reference to, a reserved name: the name; or `__proto__: value` in an
+    /// object literal: the member.
+    ReservedName(u32),
+    /// An assignment to, or an update of, a name that isn't bound there: the whole of it.
+    GlobalAssigned(u32),
+    /// A `break` outside loops and switches.
+    StrayBreak(u32),
+    /// A `continue` outside loops.
+    StrayContinue(u32),
+    /// A `return` outside functions.
+    StrayReturn(u32),
+    /// A `super` form where it has no meaning.
+    StraySuper(u32),
+    /// A `delete` of a name or a super member: the whole of it.
+    DeleteName(u32),
+    /// A second constructor, an accessor named `constructor`, or a static member named
+    /// `prototype`: the member.
+    DuplicateConstructor(u32),
+    /// An accessor whose written key is an array index: the member.
+    IndexAccessor(u32),
+    /// Want of memory.
+    Memory,
+}

@@ -9,7 +9,7 @@ mod names;
 mod token;
 mod tree;
 
-pub use faults::LexFault;
+pub use faults::{EarlyFault, LexFault};
 pub use items::{Default, Item, Module};
 pub use kinds::{BinaryOperator, FunctionKind, MemberKind, Semi, UnaryOperator};
 pub use measure::{function_count, nesting};
