@@ -1,0 +1,21 @@
+//! The syntax of the language: tokens and trees, and what ECMA-262 says of them.
+#![tactic(auto)]
+
+mod faults;
+mod items;
+mod kinds;
+mod measure;
+mod names;
+mod token;
+mod tree;
+
+pub use faults::{EarlyFault, LexFault};
+pub use items::{Default, Item, Module};
+pub use kinds::{BinaryOperator, FunctionKind, MemberKind, Semi, UnaryOperator};
+pub use measure::{function_count, nesting};
+pub use names::{Identifier, Pair};
+pub use token::{Token, TokenKind, Tokens};
+pub use tree::{
+    Case, Class, Declarator, Expression, ExpressionForm, Function, FunctionBody, Head, Key, Member,
+    Statement, StatementForm,
+};

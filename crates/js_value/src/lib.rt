@@ -1,0 +1,11 @@
+//! Texts and numbers of the language: UTF-16 units with their form in UTF-8.
+#![tactic(auto)]
+
+pub mod text;
+
+pub use text::{Units, utf8_piece};
+
+/// A result that is no Number of the language: not a whole number from -9007199254740991 to
+/// 9007199254740991, or negative zero (own rule).
+#[derive(Clone, Copy, PartialEq, Eq, Debug)]
+pub struct Range;
