@@ -2,9 +2,10 @@
 use Rattle.std.specs.Prelude.{ℕ, Bool, true, false, List, [], ◌∷◌, ◌++◌, Option, Some, None, codes, if◌then◌else◌}
 use Rattle.std.specs.Str.{bytes_eq}
 use Rattle.es_model.specs.Tree.{Text}
+use Rattle.es_model.specs.declared.names.Pair.{Pair}
 use Rattle.es_model.specs.Host.{Event, written, line_events}
 use Rattle.es_model.specs.Tree as t
-use Rattle.es_model.specs.Tree.{Tree, Pair}
+use Rattle.es_model.specs.Tree.{Tree}
 use Rattle.es_model.specs.Evaluation.{Value, Undefined, String, Function, HostFunction, Print, Read, Limit, Budget, Depth, State, Abrupt, Return, Break, Continue, Throw, Stop, Unbuilt, Completed, Normal, Ended, Environment, Cell, HostCell, meaning, evaluator}
 
 -- ---- imports of the module `host`

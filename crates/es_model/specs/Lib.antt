@@ -11,3 +11,6 @@ pub mod Levels
 pub mod Spelling
 pub mod Scopes
 pub mod EarlyRules
+pub mod Host
+pub mod Evaluation
+pub mod Boot

@@ -6,7 +6,9 @@ use Rattle.std.specs.Str.{bytes_eq}
 use Rattle.js_value.specs.Text.{units}
 use Rattle.es_model.specs.Tree.{Text}
 use Rattle.es_model.specs.Tree as t
-use Rattle.es_model.specs.Tree.{Tree, Identifier, Pair}
+use Rattle.es_model.specs.Tree.{Tree}
+use Rattle.es_model.specs.declared.names.Identifier.{Identifier}
+use Rattle.es_model.specs.declared.kinds.Semi.TheVariants.{Written}
 
 abbrev pub is_quote : ℕ → Bool
 is_quote byte = byte == 0x22
@@ -81,10 +83,10 @@ abbrev pub identifier : Text → Identifier
 identifier name = record { at = 0; name = name }
 
 abbrev pub host_import : Tree t.item
-host_import = t.Import (codes "host") (record { taken = identifier (codes "print"); given = identifier (codes "print") } ∷ []) t.Written
+host_import = t.Import (codes "host") (record { taken = identifier (codes "print"); given = identifier (codes "print") } ∷ []) Written
 
 abbrev pub print_call : Text → Tree t.item
-print_call text = t.Plain (t.Value (t.Call (t.Name (identifier (codes "print"))) (t.more (t.String text) t.none)) t.Written)
+print_call text = t.Plain (t.Value (t.Call (t.Name (identifier (codes "print"))) (t.more (t.String text) t.none)) Written)
 
 unfoldable pub printing : List Text → Tree (t.list t.item)
 printing [] = t.none

@@ -80,7 +80,12 @@ fn call<O: Sink>(names: &[Units], stack: &mut Stack, out: &mut O) -> Result<Flow
 }
 
 /// Prints a name's text, and puts the call's result.
-fn print_name<O: Sink>(names: &[Units], number: u16, stack: &mut Stack, out: &mut O) -> Result<Flow, Fault>
+fn print_name<O: Sink>(
+    names: &[Units],
+    number: u16,
+    stack: &mut Stack,
+    out: &mut O,
+) -> Result<Flow, Fault>
     ensures step { DoesStep (printed (name_at names.now number) stack.old) stack.new (O.written out.old) (O.written out.new) result }
     ensures cause { IsCounted (O.faults out.old) (O.faults out.new) result }
 {

@@ -159,10 +159,7 @@ impl Before {
 /// What comes next in a text behind its import.
 enum Next<'a> {
     /// A call that prints this string, and what stands behind the string.
-    Call {
-        argument: &'a [u8],
-        later: &'a [u8],
-    },
+    Call { argument: &'a [u8], later: &'a [u8] },
     End,
     NotThin,
 }

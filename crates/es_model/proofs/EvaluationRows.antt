@@ -4,15 +4,17 @@ use Rattle.js_value.specs.Text.{piece, utf8, encoded, character_length}
 use Rattle.es_model.specs.Host.{cut}
 use Rattle.es_model.specs.Tree as t
 use Rattle.es_model.specs.Tree.{Tree}
+use Rattle.es_model.specs.declared.names.Identifier.{Identifier}
+use Rattle.es_model.specs.declared.kinds.Semi.TheVariants.{Written}
 use Rattle.es_model.specs.Evaluation.{meaning, find, evaluator}
 use Rattle.es_model.specs.Boot.{top_level, run, told, Told}
 
 -- import { print } from "host"; print("hi");
-identifier : ℕ → List ℕ → t.Identifier
+identifier : ℕ → List ℕ → Identifier
 identifier at name = record { at = at; name = name }
 
 hi : Tree (t.list t.item)
-hi = t.more (t.Import (codes "host") (record { taken = identifier 9 (codes "print"); given = identifier 9 (codes "print") } ∷ []) t.Written) (t.more (t.Plain (t.Value (t.Call (t.Name (identifier 30 (codes "print"))) (t.more (t.String (codes "hi")) t.none)) t.Written)) t.none)
+hi = t.more (t.Import (codes "host") (record { taken = identifier 9 (codes "print"); given = identifier 9 (codes "print") } ∷ []) Written) (t.more (t.Plain (t.Value (t.Call (t.Name (identifier 30 (codes "print"))) (t.more (t.String (codes "hi")) t.none)) Written)) t.none)
 
 hi_told : told (run 100000000 hi) ≡ record { status = 0; bytes = codes "hi\n" }
 unfolding identifier hi run top_level meaning find evaluator cut piece utf8 encoded character_length
