@@ -4,6 +4,8 @@
 mod code;
 mod line;
 mod machine;
+#[cfg(test)]
+mod tests;
 mod texts;
 mod thin;
 mod top;
