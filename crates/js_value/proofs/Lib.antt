@@ -4,4 +4,6 @@ pub mod Pieces
 pub mod Filling
 pub mod Ascii
 pub mod ReadsBack
+pub mod Powers
+pub mod Shifts
 pub mod Samples

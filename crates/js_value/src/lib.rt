@@ -1,9 +1,13 @@
 //! Texts and numbers of the language: UTF-16 units with their form in UTF-8.
 #![tactic(auto)]
 
+pub mod arithmetic;
 pub mod text;
+pub mod words;
 
+pub use arithmetic::{add, div, mul, neg, pow, rem, sub};
 pub use text::{Units, utf8_piece};
+pub use words::{clz32, imul, sar, shl, shr, to_int32, to_uint32};
 
 /// A result that is no Number of the language: not a whole number from -9007199254740991 to
 /// 9007199254740991, or negative zero (own rule).
