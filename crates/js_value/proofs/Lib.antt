@@ -6,4 +6,9 @@ pub mod Ascii
 pub mod ReadsBack
 pub mod Powers
 pub mod Shifts
+pub mod Digits
+pub mod Reading
+pub mod Trimming
+pub mod Spelled
+pub mod Indices
 pub mod Samples

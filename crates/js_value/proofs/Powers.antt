@@ -20,14 +20,14 @@ pow-halved s n =
     let parts : n ≡ n % 2 + (n / 2 + n / 2) = omega arith in
     ap (λ k. s ^ k) parts ∙ pow-add s (n % 2) (n / 2 + n / 2) ∙ ap (λ p. s ^ (n % 2) * p) (pow-add s (n / 2) (n / 2) ∙ sym (mul-pow s s (n / 2)))
 
-num-large : (s : Bool) (m : ℕ) → greatest < m → num (fraction s m 1) ≡ None
+pub num-large : (s : Bool) (m : ℕ) → greatest < m → num (fraction s m 1) ≡ None
 num-large s m large =
     let e : m % 1 ≡ 0 = omega arith in
     let d : m / 1 ≡ m = omega arith in
     let t : nat_le m greatest ≡ false = grind (arith, nat_tests) in
     rw (e, d, t) refl
 
-num-small : (s : Bool) (m : ℕ) → m ≤ greatest → (s ≡ true → 0 < m) → num (fraction s m 1) ≡ Some (signed s m)
+pub num-small : (s : Bool) (m : ℕ) → m ≤ greatest → (s ≡ true → 0 < m) → num (fraction s m 1) ≡ Some (signed s m)
 num-small s m small some =
     let e : m % 1 ≡ 0 = omega arith in
     let d : m / 1 ≡ m = omega arith in

@@ -2,10 +2,14 @@
 #![tactic(auto)]
 
 pub mod arithmetic;
+pub mod literals;
+pub mod numerals;
 pub mod text;
 pub mod words;
 
 pub use arithmetic::{add, div, mul, neg, pow, rem, sub};
+pub use literals::{index_of_key, number_of_units};
+pub use numerals::{text_of_number, text_of_number_radix};
 pub use text::{Units, utf8_piece};
 pub use words::{clz32, imul, sar, shl, shr, to_int32, to_uint32};
 
