@@ -11,4 +11,5 @@ pub mod Reading
 pub mod Trimming
 pub mod Spelled
 pub mod Indices
+pub mod Laws
 pub mod Samples

@@ -1,10 +1,9 @@
 -- Powers by squaring, and what a power is as a Number.
-use Rattle.std.proofs.Common.{◌≡◌, ◌≢◌, ℕ, zero, suc, ◌+◌, ◌-◌, ◌*◌, ◌/◌, ◌%◌, ◌^◌, ◌<◌, ◌≤◌, Bool, true, false, not, ◌&&◌, nat_lt, nat_le, nat_eq, Option, Some, None, ℤ, pos, negsuc, ◌<ℤ◌, ◌≤ℤ◌, refl, sym, ◌∙◌, ap, arith, ⊎_elim, cond}
-use Rattle.std.proofs.lemmas.Int.{ints}
+use Rattle.std.proofs.Common.{◌≡◌, ◌≢◌, ℕ, zero, suc, ◌+◌, ◌*◌, ◌/◌, ◌%◌, ◌^◌, ◌<◌, ◌≤◌, Bool, true, false, not, ◌&&◌, nat_lt, nat_le, nat_eq, Some, None, ℤ, pos, negsuc, refl, sym, ◌∙◌, ap, arith, ⊎_elim, cond}
 use Rattle.std.proofs.lemmas.Nat.{pow-add, mul-pow}
 use Rattle.std.proofs.lemmas.Bool.{cases_lt, false≢true}
 use Rattle.std.proofs.lemmas.Bool.Decides.{nat_tests}
-use Rattle.std.proofs.Math.Nat.{one-le-pow, pow-le-pow_right, le-mul_of_pos_right, mul_assoc, mul_comm, mul-le-mul_left, mul-one, pow-zero, pow-suc, one-mul, mod-eq_of_lt}
+use Rattle.std.proofs.Math.Nat.{one-le-pow, pow-le-pow_right, le-mul_of_pos_right, mul_assoc, mul_comm, mul-le-mul_left, pow-zero, pow-suc, one-mul, mod-eq_of_lt}
 use Rattle.std.specs.Prelude.{unsigned_abs, int_lt}
 use Rattle.js_value.specs.Number.{greatest, signed, num, fraction, power, is_below_zero, is_odd}
 

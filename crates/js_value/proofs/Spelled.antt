@@ -1,10 +1,9 @@
 -- Literals: what is read is what is spelled.
-use Rattle.std.proofs.Common.{◌≡◌, ◌≢◌, ℕ, zero, suc, ◌+◌, ◌-◌, ◌<◌, ◌≤◌, Bool, true, false, ◌&&◌, ◌||◌, nat_eq, nat_lt, nat_le, cond, List, [], ◌∷◌, ◌++◌, length, drop, Option, Some, None, ℤ, pos, neg_ℤ, refl, sym, ◌∙◌, ap, subst, arith, ◌⊎◌, inl, inr, ⊎_elim}
-use Rattle.std.specs.List.{All}
+use Rattle.std.proofs.Common.{◌≡◌, ℕ, zero, suc, ◌<◌, ◌≤◌, Bool, true, false, ◌&&◌, ◌||◌, nat_eq, nat_le, cond, List, [], ◌∷◌, drop, Option, Some, None, ℤ, pos, neg_ℤ, refl, sym, ◌∙◌, ap, arith, ◌⊎◌, inl, inr, ⊎_elim}
 use Rattle.std.specs.Char.{digit_value}
 use Rattle.std.specs.Str.Parse.{IsNumeral, AllDigits, digits_value}
 use Rattle.std.proofs.lemmas.List.Elements.{All-cons, All-nil}
-use Rattle.std.proofs.lemmas.Bool.{cases_lt, cond-true, cond-false, false≢true, or_cases}
+use Rattle.std.proofs.lemmas.Bool.{cases_lt, cond-false, false≢true, or_cases}
 use Rattle.std.proofs.lemmas.Bool.Decides.{nat_tests, eqb_tells}
 use Rattle.js_value.specs.Number.{greatest, Exact, fraction, whole, num}
 use Rattle.js_value.specs.Numeral.{Spells, empty, decimal, positive, negative, hexadecimal, octal, binary, IsNumberOf, is_white_space, IsLetter}

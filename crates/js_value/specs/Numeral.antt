@@ -1,5 +1,5 @@
 -- Numbers as texts (ECMA-262, 6.1.6.1.20) and texts as Numbers (7.1.4.1).
-use Rattle.std.specs.Prelude.{◌≡◌, ℕ, suc, ◌<◌, ◌≤◌, Bool, true, false, ◌&&◌, ◌==◌, if◌then◌else◌, nat_le, List, [], ◌∷◌, ◌++◌, length, map, All, ℤ, pos, negsuc, ◌⊎◌, Option, Some}
+use Rattle.std.specs.Prelude.{◌≡◌, ℕ, suc, ◌≤◌, Bool, true, false, ◌&&◌, ◌==◌, if◌then◌else◌, nat_le, List, [], ◌∷◌, ◌++◌, map, All, ℤ, pos, negsuc, ◌⊎◌, Some}
 use Rattle.std.specs.List.{list_any}
 use Rattle.std.specs.Char.{digit_char}
 use Rattle.std.specs.Int.Digits.{digits_of}

@@ -1,5 +1,5 @@
 -- Words of 32 bits, as the bitwise operators take them (ECMA-262, 7.1.6, 7.1.7 and 6.1.6.1.9 to 6.1.6.1.11).
-use Rattle.std.specs.Prelude.{ℕ, ◌+◌, ◌-◌, ◌*◌, ◌/◌, ◌%◌, ◌^◌, if◌then◌else◌, nat_lt, ℤ, pos, negsuc, ◌-ℤ◌, ◌*ℤ◌}
+use Rattle.std.specs.Prelude.{ℕ, ◌-◌, ◌*◌, ◌/◌, ◌%◌, ◌^◌, if◌then◌else◌, nat_lt, ℤ, pos, negsuc, ◌-ℤ◌, ◌*ℤ◌}
 use Rattle.std.specs.Int.{leading_zeros, w32}
 
 -- the residue of a whole number, from 0 to one less than the modulus

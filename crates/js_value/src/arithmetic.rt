@@ -7,7 +7,7 @@ ghost use Rattle.js_value.specs.Number.{IsNumber, greatest, num, signed, whole, 
 use crate::Range;
 
 /// The greatest Number, 2 ^ 53 - 1.
-pub const GREATEST: u64 = 9_007_199_254_740_991;
+pub(crate) const GREATEST: u64 = 9_007_199_254_740_991;
 
 // The whole number itself, where it is in the range.
 fn in_range(value: i64) -> Result<i64, Range>
@@ -92,7 +92,7 @@ pub fn rem(a: i64, b: i64) -> Result<i64, Range>
 
 /// `a ** b` of two Numbers (ECMA-262, 6.1.6.1.3). Range where the power is no Number; `0 ** 0` is 1.
 ///
-/// It takes at most 12 turns of a loop, whatever b is.
+/// It takes at most 53 turns of a loop, whatever b is.
 pub fn pow(a: i64, b: i64) -> Result<i64, Range>
     requires first { IsNumber a }
     requires second { IsNumber b }

@@ -1,11 +1,13 @@
-//! Texts and numbers of the language: UTF-16 units with their form in UTF-8.
+//! Texts and Numbers of the language: 16-bit units with their form in UTF-8, and the operators on Numbers.
 #![tactic(auto)]
 
-pub mod arithmetic;
-pub mod literals;
-pub mod numerals;
-pub mod text;
-pub mod words;
+mod arithmetic;
+mod literals;
+mod numerals;
+#[cfg(test)]
+mod tests;
+mod text;
+mod words;
 
 pub use arithmetic::{add, div, mul, neg, pow, rem, sub};
 pub use literals::{index_of_key, number_of_units};

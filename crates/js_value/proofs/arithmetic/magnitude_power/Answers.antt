@@ -1,8 +1,7 @@
-use Rattle.std.proofs.Common.{◌≡◌, ◌<◌, ◌≤◌, ◌*◌, ◌%◌, ◌^◌, sym, ◌∙◌, ap, arith}
+use Rattle.std.proofs.Common.{◌≡◌, ◌<◌, ◌≤◌, ◌*◌, ◌%◌, ◌^◌, ◌∙◌, ap}
 use Rattle.std.proofs.lemmas.Result.{err_from_is_err_and}
-use Rattle.std.specs.Result.{result_ok}
 use Rattle.js_value.specs.Number.{greatest}
-use Rattle.js_value.proofs.Powers.{product_some, product_none, is_none, next, power_large, square_large, ended}
+use Rattle.js_value.proofs.Powers.{product_some, product_none, is_none, next, power_large, square_large}
 use Rattle.js_value.proofs.arithmetic.magnitude_power.Goals as goal
 
 pub returns-in_err-power : goal.returns-in_err-power

@@ -1,4 +1,4 @@
-use Rattle.std.proofs.Common.{◌≡◌, ◌%◌, sym, arith}
+use Rattle.std.proofs.Common.{sym}
 use Rattle.js_value.proofs.Powers.{pow-one}
 use Rattle.js_value.proofs.arithmetic.odd_factor.Goals as goal
 

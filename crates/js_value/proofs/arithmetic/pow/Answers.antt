@@ -1,7 +1,6 @@
-use Rattle.std.proofs.Common.{◌≡◌, ◌<◌, ◌≤◌, ◌^◌, true, unsigned_abs, ℤ, FitsSigned, w64, sym, ◌∙◌, inl, inr}
+use Rattle.std.proofs.Common.{◌≡◌, ◌<◌, ◌≤◌, ◌^◌, true, unsigned_abs, FitsSigned, w64, sym, ◌∙◌, inl, inr}
 use Rattle.std.proofs.lemmas.Result.{err_from_is_err_and}
 use Rattle.std.proofs.lemmas.Int.{to_z-of_z}
-use Rattle.std.specs.Int.{cast_signed, cast_unsigned}
 use Rattle.js_value.specs.Number.{greatest, is_below_zero}
 use Rattle.js_value.proofs.Powers.{product_some, product_none, power_past, power_fraction, power_whole, below_zero, not_below_zero}
 use Rattle.js_value.proofs.arithmetic.pow.Goals as goal

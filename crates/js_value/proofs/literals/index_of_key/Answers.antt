@@ -1,4 +1,4 @@
-use Rattle.std.proofs.Common.{◌≡◌, ◌≤◌, ◌<◌, Some, None, length, get_or, sym, ◌∙◌, arith}
+use Rattle.std.proofs.Common.{◌≡◌, ◌<◌, Some, length, get_or, sym, ◌∙◌, arith}
 use Rattle.js_value.proofs.Reading.{number_told}
 use Rattle.js_value.proofs.Indices.{index_read, index_digits, index_lead}
 use Rattle.js_value.proofs.literals.index_of_key.Goals as goal

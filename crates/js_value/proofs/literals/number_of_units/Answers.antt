@@ -1,4 +1,4 @@
-use Rattle.std.proofs.Common.{◌≡◌, Some, None, Ok, ℤ, w64, sym, ◌∙◌, ap}
+use Rattle.std.proofs.Common.{◌≡◌, Some, None, w64, sym, ◌∙◌, ap}
 use Rattle.std.proofs.lemmas.Int.{to_z-of_z}
 use Rattle.js_value.specs.Numeral.{IsNumberOf}
 use Rattle.js_value.specs.Literal.{literal_number, trim_start, trim_end}

@@ -1,4 +1,4 @@
-use Rattle.std.proofs.Common.{◌≡◌, ◌≤◌, ◌++◌, length, take, drop}
+use Rattle.std.proofs.Common.{◌≡◌, ◌++◌, length, take, drop}
 use Rattle.js_value.proofs.numerals.copy.Given as goal
 
 abbrev pub invariant-loop-place : goal.invariant-loop-place

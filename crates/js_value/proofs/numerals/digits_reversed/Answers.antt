@@ -1,6 +1,6 @@
-use Rattle.std.proofs.Common.{◌≡◌, ◌+◌, ◌-◌, ◌≤◌, ◌<◌, length, arith}
+use Rattle.std.proofs.Common.{◌+◌, ◌≤◌, ◌<◌, length, arith}
 use Rattle.std.specs.Int.Digits.{digits_of}
-use Rattle.js_value.proofs.Digits.{begun, next, ended, count_digits, zero_reversed, some_digits}
+use Rattle.js_value.proofs.Digits.{next, count_digits, zero_reversed, some_digits}
 use Rattle.js_value.proofs.numerals.digits_reversed.Goals as goal
 
 pub returns-then-n-eq0-clause-digits : goal.returns-then-n-eq0-clause-digits

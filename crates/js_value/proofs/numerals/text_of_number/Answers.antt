@@ -1,4 +1,4 @@
-use Rattle.std.proofs.Common.{◌≡◌, List, ℕ, w64, refl, ◌∙◌, ap}
+use Rattle.std.proofs.Common.{◌≡◌, w64, refl, ◌∙◌, ap}
 use Rattle.std.specs.Fmt.{signed_decimal}
 use Rattle.std.proofs.lemmas.Int.{to_z-of_z}
 use Rattle.js_value.specs.Numeral.{number_text}

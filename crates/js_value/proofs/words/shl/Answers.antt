@@ -1,4 +1,4 @@
-use Rattle.std.proofs.Common.{◌≡◌, ◌*ℤ◌, ◌^◌, ℤ, pos, sym, ◌∙◌, ap, refl, FitsSigned, w32, w64, of_z, to_z}
+use Rattle.std.proofs.Common.{◌≡◌, ◌*ℤ◌, ◌^◌, pos, ◌∙◌, ap, refl, FitsSigned, w32, w64, of_z, to_z}
 use Rattle.std.proofs.lemmas.Int.{to_z-of_z}
 use Rattle.js_value.specs.Word.{to_int32, shift_count}
 use Rattle.js_value.proofs.Shifts.{product_fits}
