@@ -99,11 +99,11 @@ begins_with-append (range ∷ ranges) (byte ∷ bytes) x after h high =
     let others : are_high ranges ≡ true = grind (arith, nat_tests) in
     ap (λ v. contains_byte range byte && v) (begins_with-append ranges bytes x after h others)
 
-and_left : (a b : Bool) → (a && b) ≡ true → a ≡ true
+pub and_left : (a b : Bool) → (a && b) ≡ true → a ≡ true
 and_left true b h = refl
 and_left false b h = h
 
-and_right : (a b : Bool) → (a && b) ≡ true → b ≡ true
+pub and_right : (a b : Bool) → (a && b) ≡ true → b ≡ true
 and_right true b h = h
 and_right false b h = absurd (true≢false (sym h))
 

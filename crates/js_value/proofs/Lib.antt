@@ -4,4 +4,12 @@ pub mod Pieces
 pub mod Filling
 pub mod Ascii
 pub mod ReadsBack
+pub mod Powers
+pub mod Shifts
+pub mod Digits
+pub mod Reading
+pub mod Trimming
+pub mod Spelled
+pub mod Indices
+pub mod Laws
 pub mod Samples

@@ -1,5 +1,9 @@
 -- Worked rows: what the definitions of texts give, by computing.
 use Rattle.std.proofs.Common.{◌≡◌, [], ◌∷◌, refl}
+use Rattle.std.specs.Prelude.{Some, None, pos, negsuc}
+use Rattle.js_value.specs.Number.{num, sum, quotient, remainder, product, negation, power}
+use Rattle.js_value.specs.Word.{to_int32, to_uint32, left_shift, signed_right_shift, unsigned_right_shift, word_product}
+use Rattle.js_value.specs.Numeral.{number_text}
 use Rattle.js_value.specs.Text.{units, utf8, sequence_length, character_length, encoded}
 
 -- é
@@ -61,3 +65,84 @@ past = refl
 cut_off : units (0xE2 ∷ 0x82 ∷ 0x41 ∷ 0xF1 ∷ 0x80 ∷ 0x80 ∷ []) ≡ 0xFFFD ∷ 0xFFFD ∷ 0x41 ∷ 0xFFFD ∷ 0xFFFD ∷ 0xFFFD ∷ []
 unfolding units sequence_length
 cut_off = refl
+
+-- Numbers
+
+add_past : num (sum (pos 9007199254740991) (pos 1)) ≡ None
+add_past = refl
+
+half : num (quotient (pos 7) (pos 2)) ≡ None
+half = refl
+
+by_zero : num (quotient (pos 1) (pos 0)) ≡ None
+by_zero = refl
+
+negative_remainder : num (remainder (negsuc 3) (pos 2)) ≡ None
+negative_remainder = refl
+
+remainder_sign : num (remainder (negsuc 6) (pos 4)) ≡ Some (negsuc 2)
+remainder_sign = refl
+
+negative_zero_product : num (product (pos 0) (negsuc 0)) ≡ None
+negative_zero_product = refl
+
+negative_zero : num (negation (pos 0)) ≡ None
+negative_zero = refl
+
+power_past : num (power (pos 2) (pos 60)) ≡ None
+power_past = refl
+
+power_largest : num (power (negsuc 1) (pos 52)) ≡ Some (pos 4503599627370496)
+power_largest = refl
+
+inverse_half : num (power (pos 2) (negsuc 0)) ≡ None
+inverse_half = refl
+
+inverse_one : num (power (pos 1) (negsuc 0)) ≡ Some (pos 1)
+inverse_one = refl
+
+inverse_minus_one : num (power (negsuc 0) (negsuc 2)) ≡ Some (negsuc 0)
+inverse_minus_one = refl
+
+zero_power : num (power (pos 0) (pos 0)) ≡ Some (pos 1)
+zero_power = refl
+
+inverse_zero : num (power (pos 0) (negsuc 0)) ≡ None
+inverse_zero = refl
+
+-- words
+
+highest_word : to_int32 (pos 2147483648) ≡ negsuc 2147483647
+highest_word = refl
+
+lowest_word : to_uint32 (negsuc 0) ≡ 4294967295
+lowest_word = refl
+
+shifted_out : left_shift (pos 1) (pos 31) ≡ negsuc 2147483647
+shifted_out = refl
+
+whole_turn : left_shift (pos 1) (pos 32) ≡ pos 1
+whole_turn = refl
+
+sign_copied : signed_right_shift (negsuc 4) (pos 1) ≡ negsuc 2
+sign_copied = refl
+
+sign_not_copied : unsigned_right_shift (negsuc 0) (pos 28) ≡ pos 15
+sign_not_copied = refl
+
+word_square : word_product (pos 4294967295) (pos 5) ≡ negsuc 4
+word_square = refl
+
+-- texts of numbers
+
+minus_ten : number_text 10 (negsuc 9) ≡ 0x2D ∷ 0x31 ∷ 0x30 ∷ []
+unfolding number_text
+minus_ten = refl
+
+hexadecimal_text : number_text 16 (pos 255) ≡ 0x66 ∷ 0x66 ∷ []
+unfolding number_text
+hexadecimal_text = refl
+
+zero_text : number_text 2 (pos 0) ≡ 0x30 ∷ []
+unfolding number_text
+zero_text = refl

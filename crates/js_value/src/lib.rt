@@ -1,9 +1,19 @@
-//! Texts and numbers of the language: UTF-16 units with their form in UTF-8.
+//! Texts and Numbers of the language: 16-bit units with their form in UTF-8, and the operators on Numbers.
 #![tactic(auto)]
 
-pub mod text;
+mod arithmetic;
+mod literals;
+mod numerals;
+#[cfg(test)]
+mod tests;
+mod text;
+mod words;
 
+pub use arithmetic::{add, div, mul, neg, pow, rem, sub};
+pub use literals::{index_of_key, number_of_units};
+pub use numerals::{text_of_number, text_of_number_radix};
 pub use text::{Units, utf8_piece};
+pub use words::{clz32, imul, sar, shl, shr, to_int32, to_uint32};
 
 /// A result that is no Number of the language: not a whole number from -9007199254740991 to
 /// 9007199254740991, or negative zero (own rule).
