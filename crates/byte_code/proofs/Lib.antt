@@ -12,3 +12,4 @@ pub mod Sound
 pub mod Passing
 pub mod Renames
 pub mod Renamed
+pub mod Running

@@ -147,3 +147,15 @@ pub record IsValid (code : List ℕ) (b : Bounds) : Type 0 where
   pub finds : (p h : ℕ) (op : Op) → At code p op → Way code b.handlers p h → (effect op).pops ≤ h
   -- a jump to itself or backward leaves height 0, and leads to a `turn`
   pub back : (p q h : ℕ) (op : Op) → At code p op → Way code b.handlers p h → target op ≡ Some q → q ≤ p → (height_after op h ≡ 0) × At code q Turn
+
+-- A run goes from p to q: to the next instruction, along a jump, or from a throw in the range of a
+-- handler to its target.
+pub data Leads (code : List ℕ) (handlers : List ℕ) (p q : ℕ) : Type 0 where
+  Onward : (op : Op) → At code p op → goes_on op ≡ true → q ≡ end_of p op → Leads code handlers p q
+  Jumps : (op : Op) → At code p op → target op ≡ Some q → Leads code handlers p q
+  Throws : (k : ℕ) → 6 * k + 6 ≤ length handlers → range_start handlers k ≤ p → p < range_end handlers k → handler_target handlers k ≡ q → Leads code handlers p q
+
+-- A run goes from p to q over one or more instructions and enters no `turn`.
+pub data Turnless (code : List ℕ) (handlers : List ℕ) (p : ℕ) : ℕ → Type 0 where
+  Once : (q : ℕ) → Leads code handlers p q → (At code q Turn → ⊥) → Turnless code handlers p q
+  Again : (q r : ℕ) → Turnless code handlers p q → Leads code handlers q r → (At code r Turn → ⊥) → Turnless code handlers p r

@@ -9,7 +9,7 @@ use crate::operand::Operand;
 use byteorder::{BigEndian, ByteOrder};
 
 /// The counts that bound a code's operands, and its handlers: for each, innermost first, the start
-/// and the end of its range and its target, two bytes each, the highest byte first.
+/// and the end of its range and its target, two bytes each, the highest byte first (own rule).
 #[derive(Clone, Copy)]
 pub struct Frame<'a> {
     /// All places, the parameters among them.

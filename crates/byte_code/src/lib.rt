@@ -24,4 +24,6 @@ pub use renaming::rename;
 pub use validity::valid;
 
 #[cfg(test)]
+mod code_tests;
+#[cfg(test)]
 mod tests;

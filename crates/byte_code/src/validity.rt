@@ -202,10 +202,11 @@ fn handlers_fit(handlers: &[u8], size: usize, heights: &[Option<u16>]) -> bool
 
 /// Whether a function's code is valid: a machine that runs it never meets a missing operand, a jump
 /// out of the code or an operand outside the frame, and every way that comes back to an instruction
-/// passes a `turn`.
+/// passes a `turn` (own rule). The code has at most 65,535 bytes.
 ///
-/// It takes no memory but an array on the stack with an entry for each byte that a code may have.
-/// Its time is proportional to the code's length times one more than the number of handlers.
+/// It takes no memory but an array on the stack with an entry for each byte that a code may have, of
+/// four bytes each. Its time is proportional to the code's length times one more than the number of
+/// handlers.
 pub fn valid(code: &[u8], frame: Frame<'_>) -> bool
     requires { length code.now ≤ 65535 }
     ensures { IsTrue result ↔ IsValid code.now (bounds_of frame.entry) }
