@@ -11,3 +11,4 @@ pub mod Levels
 pub mod Spelling
 pub mod Scopes
 pub mod EarlyRules
+pub mod FreeNames
