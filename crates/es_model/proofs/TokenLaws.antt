@@ -1,12 +1,13 @@
 -- Laws of `tokens_of`: its parts, joined, are the text, and an accepted list has one End, its last.
-use Rattle.std.proofs.Common.{◌≡◌, ℕ, zero, suc, ◌+◌, ◌-◌, Bool, true, false, not, ◌&&◌, ◌||◌, ◌==◌, nat_le, List, [], ◌∷◌, ◌++◌, length, take, drop, take_while, map, codes, pos, Option, Some, None, Result, Ok, Err, refl, ap, sym, ◌∙◌, take-append-drop, append-nil}
+use Rattle.std.proofs.Common.{◌≡◌, ℕ, zero, suc, ◌+◌, ◌-◌, Bool, true, false, not, ◌&&◌, ◌||◌, ◌==◌, nat_le, List, [], ◌∷◌, ◌++◌, length, take, drop, take_while, map, codes, pos, Option, Some, None, Result, Ok, Err, refl, ap, sym, ◌∙◌, take-append-drop, append-nil, subst}
 use Rattle.std.specs.List.{flat_map, list_any}
 use Rattle.js_value.specs.Text.{parts, sequence_length, utf16}
 use Rattle.es_model.specs.declared.faults.LexFault.{LexFault}
-use Rattle.es_model.specs.declared.faults.LexFault.TheVariants.{BadCharacter, OpenComment, NumberForm, NumberTooLarge}
+use Rattle.es_model.specs.declared.faults.LexFault.TheVariants.{NotUtf8, BadCharacter, OpenComment, OpenTemplate, NumberForm, NumberTooLarge}
 use Rattle.es_model.specs.declared.token.Token.{Token}
 use Rattle.es_model.specs.declared.token.TokenKind.{TokenKind}
 use Rattle.es_model.specs.declared.token.TokenKind.TheVariants as k
+use Rattle.es_model.specs.Readings.{same_kind, is_end}
 use Rattle.es_model.specs.Tokens as s
 use Rattle.es_model.specs.Tokens.{Element, Between, Word, Wrong, Brace, Part, parts_of, element, braces_after, width}
 
@@ -36,3 +37,94 @@ joined_after zero braces at (c ∷ cs) =
 -- the parts of a text, joined, are the text
 pub parts_joined : (text : List ℕ) → joined (parts_of 0 [] 0 text) ≡ text
 parts_joined text = joined_after 0 [] 0 text
+
+-- An accepted list has one End, its last: no token of the text is End, and the list ends in one.
+
+data Fine : Element → Type 0 where
+  between : {line : Bool} {more : ℕ} → Fine (Between line more)
+  word : {kind : TokenKind} {more : ℕ} → same_kind kind k.End ≡ false → Fine (Word kind more)
+  wrong : {fault : LexFault} → Fine (Wrong fault)
+
+fine_if : (b : Bool) (x y : Element) → Fine x → Fine y → Fine (elim b [ true ↦ x | false ↦ y ])
+fine_if true x y one other = one
+fine_if false x y one other = other
+
+name_fine : (c : ℕ) (cs : List ℕ) → Fine (s.name_element c cs)
+name_fine c cs = elim (s.keyword_of (c ∷ take_while s.is_name_part cs)) as (λ o. Fine (elim o [ Some n ↦ Word (k.Keyword n) (length (take_while s.is_name_part cs)) | None ↦ Word (k.Name (flat_map utf16 (c ∷ take_while s.is_name_part cs))) (length (take_while s.is_name_part cs)) ])) [ Some n ↦ word refl | None ↦ word refl ]
+
+number_fine : (at c : ℕ) (cs : List ℕ) → Fine (s.number_element at c cs)
+number_fine at c cs = fine_if _ _ _ wrong (fine_if _ _ _ (word refl) wrong)
+
+sign_fine : (at : ℕ) (text : List ℕ) → Fine (s.sign_element at text)
+sign_fine at text = elim (s.longest_from 0 s.signs text) as (λ o. Fine (elim o [ Some (n, size) ↦ Word (k.Sign n) (size - 1) | None ↦ Wrong (BadCharacter at) ])) [ Some (n, size) ↦ word refl | None ↦ wrong ]
+
+string_fine : (at : ℕ) (r : Result (List ℕ × Bool × ℕ) LexFault) → Fine (s.read_string at r)
+string_fine at (Ok (units, last, count)) = word refl
+string_fine at (Err fault) = wrong
+
+template_fine : (first : Bool) (r : Result (List ℕ × Bool × ℕ) LexFault) → Fine (s.read_template first r)
+template_fine first (Ok (units, last, count)) = word refl
+template_fine first (Err fault) = wrong
+
+closing_fine : (braces : List Brace) (at : ℕ) (cs : List ℕ) → Fine (s.closing_element braces at cs)
+closing_fine braces at cs = elim (s.continued braces) as (λ o. Fine (elim o [ Some first ↦ s.read_template false (s.template_from 0 first (at + 1) cs) | None ↦ s.sign_element at (125 ∷ cs) ])) [ Some first ↦ template_fine false (s.template_from 0 first (at + 1) cs) | None ↦ sign_fine at (125 ∷ cs) ]
+
+quoted_fine : (braces : List Brace) (at c : ℕ) (cs : List ℕ) → Fine (s.quoted_element braces at c cs)
+quoted_fine braces at c cs = fine_if ((c == 34) || (c == 39)) _ _ (string_fine at (s.string_from c 0 at (at + 1) cs)) (fine_if (c == 96) _ _ (template_fine true (s.template_from 0 at (at + 1) cs)) (fine_if (c == 125) _ _ (closing_fine braces at cs) (sign_fine at (c ∷ cs))))
+
+word_fine : (braces : List Brace) (at c : ℕ) (cs : List ℕ) → Fine (s.word_element braces at c cs)
+word_fine braces at c cs = fine_if (s.is_name_start c) _ _ (name_fine c cs) (fine_if (s.is_digit c) _ _ (number_fine at c cs) (fine_if ((c == 46) && s.first_is s.is_digit cs) _ _ (wrong {fault = NumberForm at}) (quoted_fine braces at c cs)))
+
+block_fine : (at : ℕ) (cs : List ℕ) → Fine (s.block_comment at cs)
+block_fine at cs = elim (s.comment_end cs) as (λ o. Fine (elim o [ Some n ↦ Between (list_any s.is_line_break (take n cs)) (suc n) | None ↦ Wrong (OpenComment at) ])) [ Some n ↦ between | None ↦ wrong ]
+
+element_fine : (braces : List Brace) (at c : ℕ) (cs : List ℕ) → Fine (element braces at c cs)
+element_fine braces at c cs =
+    fine_if (s.is_blank c) (Between false 0) _ between (fine_if (s.is_line_break c) (Between true 0) _ between
+    (fine_if (s.begins (codes "//") (c ∷ cs)) (s.line_comment (s.behind cs)) _ between
+    (fine_if (s.begins (codes "/*") (c ∷ cs)) _ _ (block_fine at (s.behind cs)) (word_fine braces at c cs))))
+
+-- a list has one End, its last
+abbrev pub EndsOnce : List Token → Type 0
+EndsOnce [] = ⊥
+EndsOnce (token ∷ tokens) = elim (is_end token) [ true ↦ tokens ≡ [] | false ↦ EndsOnce tokens ]
+
+abbrev Good : Result (List Token) LexFault → Type 0
+Good (Ok tokens) = EndsOnce tokens
+Good (Err fault) = Unit {0}
+
+no_end : {kind : TokenKind} {more : ℕ} → Fine (Word kind more) → same_kind kind k.End ≡ false
+no_end (word e) = e
+
+before_good : (token : Token) (r : Result (List Token) LexFault) → is_end token ≡ false → Good r → Good (s.before token r)
+before_good token (Ok tokens) e h = ended (is_end token) e h
+  where
+    ended : (b : Bool) → b ≡ false → EndsOnce tokens → elim b as (λ c. Type 0) [ true ↦ tokens ≡ [] | false ↦ EndsOnce tokens ]
+    ended true e h = absurd (cc e)
+    ended false e h = h
+before_good token (Err fault) e h = tt
+
+ending_good : (at : ℕ) (line : Bool) (o : Option ℕ) → Good (s.tokens_in line (record { at = at; element = elim o [ Some begun ↦ Wrong (OpenTemplate begun) | None ↦ Word k.End 0 ]; spelling = [] } ∷ []))
+ending_good at line (Some begun) = tt
+ending_good at line None = refl
+
+good_after : (passed : ℕ) (braces : List Brace) (at : ℕ) (text : List ℕ) (line : Bool) → Good (s.tokens_in line (parts_of passed braces at text))
+good_after passed braces at [] line = ending_good at line (s.innermost braces)
+good_after (suc passed) braces at (c ∷ cs) line = good_after passed braces (at + width c) cs line
+good_after zero braces at (c ∷ cs) line =
+    elim (element braces at c cs) as (λ e. Fine e → Good (s.tokens_in line (elim e [
+      Between breaks more ↦ record { at = at; element = Between breaks more; spelling = c ∷ take more cs } ∷ parts_of more braces (at + width c) cs
+    | Word kind more ↦ record { at = at; element = Word kind more; spelling = c ∷ take more cs } ∷ parts_of more (braces_after at kind braces) (at + width c) cs
+    | Wrong fault ↦ record { at = at; element = Wrong fault; spelling = c ∷ cs } ∷ [] ]))) [
+      Between breaks more ↦ λ h. good_after more braces (at + width c) cs (line || breaks)
+    | Word kind more ↦ λ h. before_good _ (s.tokens_in false (parts_of more (braces_after at kind braces) (at + width c) cs)) (no_end h) (good_after more (braces_after at kind braces) (at + width c) cs false)
+    | Wrong fault ↦ λ h. tt ] (element_fine braces at c cs)
+
+good_at : (bytes : List ℕ) (o : Option ℕ) → Good (elim o [ Some at ↦ Err (NotUtf8 at) | None ↦ s.tokens_in false (parts_of 0 [] 0 (s.characters_of bytes)) ])
+good_at bytes (Some at) = tt
+good_at bytes None = good_after 0 [] 0 (s.characters_of bytes) false
+
+-- the tokens of a text have one End, their last
+pub ends_once : (bytes : List ℕ) (tokens : List Token) → s.tokens_of bytes ≡ Ok tokens → EndsOnce tokens
+unfolding s.tokens_of
+ends_once bytes tokens e = subst Good e (good_at bytes (s.first_bad 0 (parts sequence_length bytes)))

@@ -1,5 +1,5 @@
 -- The functions of a module, and their numbers.
-use Rattle.std.specs.Prelude.{ℕ, suc, Bool, true, false, ◌||◌, List, [], ◌∷◌, ◌++◌, length}
+use Rattle.std.specs.Prelude.{ℕ, zero, suc, Bool, true, false, ◌||◌, List, [], ◌∷◌, ◌++◌, length, slice_get, Option, None}
 use Rattle.es_model.specs.declared.kinds.FunctionKind.{FunctionKind}
 use Rattle.es_model.specs.declared.kinds.FunctionKind.TheVariants as k
 use Rattle.es_model.specs.Tree as t
@@ -127,3 +127,8 @@ unfoldable mutual
 -- on, in the order of `functions`.
 abbrev pub function_count : Tree (t.list t.item) → ℕ
 function_count items = suc (length (functions items))
+
+-- the function of a number; none of the body, and past the last
+abbrev pub function_at : Tree (t.list t.item) → ℕ → Option FunctionForm
+function_at items zero = None
+function_at items (suc number) = slice_get (functions items) number

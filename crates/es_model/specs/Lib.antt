@@ -11,6 +11,10 @@ pub mod Levels
 pub mod Spelling
 pub mod Scopes
 pub mod EarlyRules
+<<<<<<< HEAD
 pub mod Host
 pub mod Evaluation
 pub mod Boot
+=======
+pub mod FreeNames
+>>>>>>> syntax-main

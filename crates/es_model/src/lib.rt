@@ -6,6 +6,7 @@ mod items;
 mod kinds;
 mod measure;
 mod names;
+mod place;
 mod token;
 mod tree;
 
@@ -14,6 +15,7 @@ pub use items::{Default, Item, Module};
 pub use kinds::{BinaryOperator, FunctionKind, MemberKind, Semi, UnaryOperator};
 pub use measure::{function_count, nesting};
 pub use names::{Identifier, Pair};
+pub use place::{Capture, Place};
 pub use token::{Token, TokenKind, Tokens};
 pub use tree::{
     Case, Class, Declarator, Expression, ExpressionForm, Function, FunctionBody, Head, Key, Member,
