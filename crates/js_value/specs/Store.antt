@@ -66,12 +66,12 @@ Store = List Thing
 
 -- ---- the things of a store
 
--- what stands in for an object, cell or mark that isn't there
+-- what stands in for an object, cell or mark that isn't there: nothing of it can change
 abbrev pub no_object : ObjectRecord
 no_object = record { class = Ordinary; prototype = None; extensible = false; indexed = []; named = [] }
 
 abbrev pub no_cell : CellRecord
-no_cell = record { value = None; const = true }
+no_cell = record { value = Some Undefined; const = true }
 
 abbrev pub as_object : Option Thing → ObjectRecord
 as_object (Some (AnObject o)) = o
@@ -205,20 +205,20 @@ size (AMark b) = 1
 
 -- ---- frozen things: nothing of them can change any more
 
-abbrev pub fixed_content : Content → Bool
-fixed_content (Data value writable) = not writable
-fixed_content (Accessor get set) = true
+abbrev pub is_fixed_content : Content → Bool
+is_fixed_content (Data value writable) = not writable
+is_fixed_content (Accessor get set) = true
 
-abbrev pub fixed : Property → Bool
-fixed p = not p.configurable && fixed_content p.content
+abbrev pub is_fixed : Property → Bool
+is_fixed p = not p.configurable && is_fixed_content p.content
 
-abbrev pub all_fixed : {K : Type 0} → List (K × Property) → Bool
-all_fixed [] = true
-all_fixed (e ∷ es) = fixed e.1 && all_fixed es
+abbrev pub are_fixed : {K : Type 0} → List (K × Property) → Bool
+are_fixed [] = true
+are_fixed (e ∷ es) = is_fixed e.1 && are_fixed es
 
 -- TestIntegrityLevel with level frozen (7.3.17)
 unfoldable pub is_frozen : ObjectRecord → Bool
-is_frozen o = not o.extensible && all_fixed o.indexed && all_fixed (strings o)
+is_frozen o = not o.extensible && are_fixed o.indexed && are_fixed (strings o)
 
 abbrev pub is_initialised : Option Value → Bool
 is_initialised (Some v) = true
