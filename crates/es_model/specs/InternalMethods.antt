@@ -193,7 +193,7 @@ delete_own_property o key = ordinary_delete o key (own_property o key)
 unfoldable pub prevent_extensions : ObjectRecord → Outcome
 prevent_extensions o = wrote (record o { extensible = false })
 
--- ---- SetIntegrityLevel with level frozen (7.3.16): each own property is defined { [[Configurable]]: false }, a data
+-- ---- SetIntegrityLevel with level frozen (7.3.15): each own property is defined { [[Configurable]]: false }, a data
 -- property { [[Configurable]]: false, [[Writable]]: false }, which no property refuses
 
 abbrev pub fixed_content : Content → Content

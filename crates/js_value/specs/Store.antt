@@ -216,7 +216,7 @@ abbrev pub are_fixed : {K : Type 0} → List (K × Property) → Bool
 are_fixed [] = true
 are_fixed (e ∷ es) = is_fixed e.1 && are_fixed es
 
--- TestIntegrityLevel with level frozen (7.3.17)
+-- TestIntegrityLevel with level frozen (7.3.16)
 unfoldable pub is_frozen : ObjectRecord → Bool
 is_frozen o = not o.extensible && are_fixed o.indexed && are_fixed (strings o)
 
