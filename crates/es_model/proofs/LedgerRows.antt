@@ -3,7 +3,7 @@ use Rattle.std.proofs.Common.{◌≡◌, ℕ, Bool, true, false, List, [], ◌�
 use Rattle.js_value.specs.Value.{Value, Undefined, Null, Number, String, Object, Key, Index, Named, Numeral}
 use Rattle.js_value.specs.Store.{Thing, AnObject, ACell, Class, Array, Property, Data, ObjectRecord, size, frozen}
 use Rattle.es_model.specs.State.{Counts, State, nothing, some_slots, some_units, costs_at_start, counts_at_resume, FulfilJob}
-use Rattle.es_model.specs.Ledger.{Slots, Units}
+use Rattle.es_model.specs.Ledger.{OutOf, Slots, Units}
 use Rattle.es_model.specs.InternalMethods.{Freeze, PreventExtensions, SetPrototypeOf}
 use Rattle.es_model.specs.Events.{SetCell, Apply}
 use Rattle.es_model.specs.Act.{Act, Give, Do, run, Ran}
@@ -38,7 +38,7 @@ preloaded = AnObject (ordinary None ((codes "a", plain (Number (pos 1))) ∷ [])
 assignment : Act
 assignment = put_value (Object 13) (Named (codes "a")) (Number (pos 2)) (Give Null)
 
-assignments : came (over preloaded 2 assignment) ∷ came (over preloaded 1 assignment) ∷ [] ≡ Gave Null ∷ Stopped Slots ∷ []
+assignments : came (over preloaded 2 assignment) ∷ came (over preloaded 1 assignment) ∷ [] ≡ Gave Null ∷ Stopped (OutOf Slots) ∷ []
 unfolding computing over preloaded assignment
 assignments = refl
 
@@ -56,7 +56,7 @@ two_fixed = record (array_of ((0, fixed (Number (pos 1))) ∷ (1, fixed (Number 
 push : Act
 push = set_or_throw to_number 13 (Index 2) (Number (pos 3)) (Give Null)
 
-pushes : came (over (AnObject two_fixed ∷ []) 2 push) ∷ came (over (AnObject two_fixed ∷ []) 1 push) ∷ [] ≡ Threw (Object 14) ∷ Stopped Slots ∷ []
+pushes : came (over (AnObject two_fixed ∷ []) 2 push) ∷ came (over (AnObject two_fixed ∷ []) 1 push) ∷ [] ≡ Threw (Object 14) ∷ Stopped (OutOf Slots) ∷ []
 unfolding computing over two_fixed fixed push
 pushes = refl
 
@@ -82,7 +82,7 @@ four_units : Counts
 four_units = record ample { units = 4 }
 
 texts : came (run calls joined (state_in (world_with three_units [] []))) ∷ came (run calls joined (state_in (world_with four_units [] []))) ∷ []
-    ≡ Stopped Units ∷ Gave (String (codes "abcd")) ∷ []
+    ≡ Stopped (OutOf Units) ∷ Gave (String (codes "abcd")) ∷ []
 unfolding computing joined three_units four_units
 texts = refl
 

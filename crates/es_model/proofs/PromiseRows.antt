@@ -27,7 +27,7 @@ thenable_jobs : (after (call_resolve_function 13 14 (Object 15))).jobs ≡ Thena
 unfolding computing promise reaction things after
 thenable_jobs = refl
 
-thenable_used : (after (call_resolve_function 13 14 (Object 15))).used ≡ some_slots 4
+thenable_used : (after (call_resolve_function 13 14 (Object 15))).ledger.used ≡ some_slots 4
 unfolding computing promise reaction things after
 thenable_used = refl
 
@@ -77,7 +77,7 @@ settled_once : (after settled_again).jobs ≡ FulfilJob (Object 16) 13 Null ∷ 
 unfolding computing promise reaction things after settled_again
 settled_once = refl
 
-settled_used : (after settled_again).used ≡ some_slots 4
+settled_used : (after settled_again).ledger.used ≡ some_slots 4
 unfolding computing promise reaction things after settled_again
 settled_used = refl
 
@@ -103,11 +103,11 @@ unfolding computing promise reaction things handled_late
 passed_on = refl
 
 -- a reaction's derived promise is two slots, a reaction three
-then_used : (after (promise_then 13 (Object 16) Undefined (λ derived. Give (Object derived)))).used ≡ some_slots 5
+then_used : (after (promise_then 13 (Object 16) Undefined (λ derived. Give (Object derived)))).ledger.used ≡ some_slots 5
 unfolding computing promise reaction things after
 then_used = refl
 
 -- a mark and two functions with two properties each
-functions_used : (after (create_resolving_functions 13 (λ mark resolve reject. Give Null))).used ≡ some_slots 13
+functions_used : (after (create_resolving_functions 13 (λ mark resolve reject. Give Null))).ledger.used ≡ some_slots 13
 unfolding computing promise reaction things after
 functions_used = refl

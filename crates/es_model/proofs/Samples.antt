@@ -52,9 +52,7 @@ world_with room things first_costs = record {
   store = realm_of things;
   realm = places;
   names = codes "length" ∷ codes "a" ∷ codes "b" ∷ codes "then" ∷ [];
-  first_costs = first_costs;
-  used = nothing;
-  room = room;
+  ledger = record { used = nothing; room = room; first_costs = first_costs };
   jobs = [];
   rejections = [];
   modules = [];
@@ -108,7 +106,7 @@ abbrev pub thing_after : Ran → ℕ → Option Thing
 thing_after r n = slice_get (world_after r).store n
 
 abbrev pub used_after : Ran → Counts
-used_after r = (world_after r).used
+used_after r = (world_after r).ledger.used
 
 -- rows that name this compute through all definitions
 unfoldable pub computing : Unit {0}

@@ -3,7 +3,7 @@ use Rattle.std.proofs.Common.{◌≡◌, ℕ, Bool, true, false, List, [], ◌�
 use Rattle.js_value.specs.Value.{Value, Undefined, Number, Boolean, String, Object, Key, Index, Named}
 use Rattle.js_value.specs.Store.{Thing, AnObject, ObjectRecord, Property, Data}
 use Rattle.es_model.specs.State.{Counts, some_slots}
-use Rattle.es_model.specs.Ledger.{Slots, Units}
+use Rattle.es_model.specs.Ledger.{OutOf, Slots, Units}
 use Rattle.es_model.specs.InternalMethods.{PropertyDescriptor, no_fields, value_descriptor, DefineOwnProperty, Delete, Outcome, refused, unchanged, wrote, define_own_property, delete_own_property}
 use Rattle.es_model.specs.Events.{Make, MakeText, Apply}
 use Rattle.es_model.specs.Act.{Act, Give, Do, run}
@@ -16,7 +16,7 @@ two_objects = Do (Make blank) (λ a. Do (Make blank) (λ b. Give Undefined))
 one_slot : Counts
 one_slot = record ample { slots = 1 }
 
-second_object_stops : came (run calls two_objects (state_in (world_with one_slot [] []))) ≡ Stopped Slots
+second_object_stops : came (run calls two_objects (state_in (world_with one_slot [] []))) ≡ Stopped (OutOf Slots)
 unfolding computing two_objects one_slot
 second_object_stops = refl
 
@@ -25,7 +25,7 @@ unfolding computing two_objects one_slot
 one_slot_used = refl
 
 -- a text of three units in a room of two
-text_stops : came (run calls (Do (MakeText 3) (λ t. Give Undefined)) (state_in (world_with (record ample { units = 2 }) [] []))) ≡ Stopped Units
+text_stops : came (run calls (Do (MakeText 3) (λ t. Give Undefined)) (state_in (world_with (record ample { units = 2 }) [] []))) ≡ Stopped (OutOf Units)
 unfolding computing
 text_stops = refl
 

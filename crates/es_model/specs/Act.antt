@@ -3,7 +3,7 @@
 use Rattle.std.specs.Prelude.{ℕ, zero, suc, List, [], ◌∷◌, Option, Some, None}
 use Rattle.js_value.specs.Value.{Value}
 use Rattle.es_model.specs.State.{World, State}
-use Rattle.es_model.specs.Ledger.{Event, Happens, Stops, Stop, Budget}
+use Rattle.es_model.specs.Ledger.{Event, Happens, Stops, Stop, Budget, OutOf}
 use Rattle.es_model.specs.Events.{Question, Reply, reply, Deed, Answer, perform}
 
 -- completions (ECMA-262 6.2.4) of a call
@@ -68,7 +68,7 @@ spent (suc n) s f = f (record s { meter = n })
 
 abbrev pub happened : {A : Type 0} → Event A → State → (A → State → Ran) → Ran
 happened (Happens a w) s f = f a (with_world s w)
-happened (Stops stop) s f = Halts stop s
+happened (Stops full) s f = Halts (OutOf full) s
 
 abbrev pub returned : Ran → (Value → State → Ran) → Ran
 returned (Ends (NormalCompletion v) s) f = f v s

@@ -8,44 +8,50 @@ use Rattle.es_model.specs.InternalMethods.{Method, DefineOwnProperty}
 
 -- ---- what stops a run
 
+-- the limits of the ledger
+pub data Full : Type 0 where
+  Slots : Full
+  Units : Full
+  Names : Full
+
 pub data Stop : Type 0 where
   Budget : Stop
   Depth : Stop
-  Slots : Stop
-  Units : Stop
-  Names : Stop
+  OutOf : Full → Stop
   NoHost : Stop                      -- a host function was called where there is no host
 
 -- ---- an event: it happens and answers, or it stops the run
 
 pub data Event (A : Type 0) : Type 0 where
   Happens : A → World → Event A
-  Stops : Stop → Event A
+  Stops : Full → Event A
 
 -- the limit that these counts pass; units are tested first, then names, then slots
-abbrev pub passed : (used room : Counts) → Option Stop
+abbrev pub passed : (used room : Counts) → Option Full
 passed used room =
     cond (nat_lt room.units used.units) (Some Units)
       (cond (nat_lt room.names used.names) (Some Names)
         (cond (nat_lt room.slots used.slots) (Some Slots) None))
 
-abbrev pub charged_unless : {A : Type 0} → Option Stop → A → World → Event A
+abbrev pub charged_unless : {A : Type 0} → Option Full → A → World → Event A
 charged_unless None a w = Happens a w
-charged_unless (Some stop) a w = Stops stop
+charged_unless (Some full) a w = Stops full
 
 -- an event that costs a price and leaves a world
 abbrev pub charged : {A : Type 0} → Counts → A → World → Event A
-charged price a w = charged_unless (passed (plus w.used price) w.room) a (record w { used = plus w.used price })
+charged price a w =
+    let used = plus w.ledger.used price in
+    charged_unless (passed used w.ledger.room) a (record w { ledger = record w.ledger { used = used } })
 
 -- ---- writes
 
 -- A write of a thing costs what its first write costs, then what it adds, and leaves the thing. A frozen thing has no
 -- write: whatever it accepts leaves it as it is.
 abbrev pub with_thing : World → ℕ → Thing → World
-with_thing w n t = record w { store = set w.store n t; first_costs = set w.first_costs n 0 }
+with_thing w n t = record w { store = set w.store n t; ledger = record w.ledger { first_costs = set w.ledger.first_costs n 0 } }
 
 abbrev pub first_cost : World → ℕ → Counts
-first_cost w n = some_slots (get_or w.first_costs n 0)
+first_cost w n = some_slots (get_or w.ledger.first_costs n 0)
 
 unfoldable pub written : {A : Type 0} → World → ℕ → (before after : Thing) → (added : Counts) → A → Event A
 written w n before after added a = cond (frozen before) (Happens a w)

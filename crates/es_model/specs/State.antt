@@ -63,15 +63,20 @@ most_names = 65535
 abbrev pub room_of : Limits → (known : List Text) → Counts
 room_of limits known = record { slots = limits.slots; units = limits.units; names = most_names - length known }
 
+-- the ledger: what was used, the limits, and for each thing what its next write costs first: its size at the start
+-- until it is written, then 0, and 0 for things that were made since (or for all, where first writes aren't counted)
+pub record Ledger : Type 0 where
+  pub used : Counts
+  pub room : Counts
+  pub first_costs : List ℕ
+
 -- ---- the world
 
 pub record World : Type 0 where
   pub store : Store
   pub realm : List ℕ                 -- the number of each thing of the realm, in the realm's order
   pub names : List Text              -- the texts that are names, in the order in which they became so
-  pub first_costs : List ℕ           -- for each thing what its next write costs first: 0 once it was written, and for new things
-  pub used : Counts
-  pub room : Counts
+  pub ledger : Ledger
   pub jobs : List Job                -- the first one runs first
   pub rejections : List ℕ            -- promises that were rejected while they had no reaction
   pub modules : List ModuleState
