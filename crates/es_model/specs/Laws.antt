@@ -1,8 +1,9 @@
 -- What the laws of acts are stated in.
-use Rattle.std.specs.Prelude.{◌≡◌, ℕ, suc, ◌≤◌, List, ◌++◌, length, Option, Some, None}
+use Rattle.std.specs.Prelude.{◌≡◌, ℕ, suc, ◌≤◌, Bool, false, ◌==◌, List, ◌++◌, length, Option, Some, None}
 use Rattle.js_value.specs.Value.{Value, Text}
 use Rattle.es_model.specs.State.{World, State, Ledger, Counts}
 use Rattle.es_model.specs.Ledger.{Event, Happens, Stops, Stop, OutOf}
+use Rattle.es_model.specs.Events.{Deed, Apply, Attach, SetCell, SetMark, Settle, AddReaction}
 use Rattle.es_model.specs.Act.{Completion, Ran, Ends, Halts, Calls, with_world}
 
 -- ---- two ways of calling that agree
@@ -59,3 +60,14 @@ EndAlikeUnlessFull x (Halts (OutOf full) t) = Unit {0}
 EndAlikeUnlessFull (Ends c s) (Ends d t) = (c ≡ d) × IsAlikeState s t
 EndAlikeUnlessFull (Halts x s) (Halts y t) = (x ≡ y) × IsAlikeState s t
 EndAlikeUnlessFull _ _ = ⊥
+
+-- ---- which thing a deed may change
+
+abbrev pub changes : Deed → ℕ → Bool
+changes (Apply n m) k = n == k
+changes (Attach f p) k = f == k
+changes (SetCell n v) k = n == k
+changes (SetMark n) k = n == k
+changes (Settle n state) k = n == k
+changes (AddReaction n r) k = n == k
+changes _ k = false
