@@ -1,3 +1,4 @@
 pub mod Number
+pub mod Order
 pub mod Store
 pub mod Value
