@@ -1,0 +1,206 @@
+-- Own keys are distinct and in order, and every method keeps them so.
+use Rattle.std.proofs.Common.{◌≡◌, ◌≢◌, ℕ, zero, suc, ◌+◌, ◌<◌, ◌≤◌, Bool, true, false, cond, not, ◌&&◌, ◌||◌, List, [], ◌∷◌, ◌++◌, length, nat_lt, nat_le, ◌==◌, ℤ, pos, negsuc, arith, refl, sym, ap, ◌∙◌, subst, Option, Some, None, IfSome, option_map, unwrap_or, is_some}
+use Rattle.std.specs.Option.{option_map_or}
+use Rattle.std.proofs.lemmas.Bool.Decides.{nat_tests}
+use Rattle.js_value.specs.Number.{index_of_text, text_of_number}
+use Rattle.js_value.specs.Value.{Value, Undefined, Null, Boolean, Number, String, Object, Text, same_text, Key, Index, Named, Numeral, is_index, text_of_key}
+use Rattle.js_value.specs.Store.{Store, Thing, AnObject, Property, Content, Data, Accessor, Class, Ordinary, Array, ScriptFunction, BuiltInFunction, ResolveFunction, RejectFunction, Error, Promise, ObjectRecord, own_property, with_property, without_property, with_string, with_length, is_length_of, put_name, put_index, removed, found, length_name, length_property, strings}
+use Rattle.js_value.specs.Order.{IsKey, AllAbove, AllBelow, Ascending, Distinct, NoIndexText, FitsLength, NoLength, IsOrderly}
+use Rattle.js_value.proofs.Entries.{put_name_distinct, put_name_no_index, found-put_name, removed_none, removed_distinct, removed_no_index, all_below_more, put_index_below, put_index_ascending, removed_below, removed_ascending, same_text_sym}
+use Rattle.es_model.specs.Equality.{same_bool}
+use Rattle.es_model.specs.InternalMethods.{PropertyDescriptor, Outcome, refused, unchanged, wrote, validate_and_apply_property_descriptor, ordinary_define_own_property, new_property, new_content, applied, differs, forbidden_content, forbidden, has_fields, is_accessor_descriptor, is_data_descriptor, length_of_value, lowest_length, elements_below, lowered, set_length_to, length_set_by, array_set_length, raised, array_define_index, array_define_own_property, define_by_class, define_own_property, ordinary_delete, delete_own_property, prevent_extensions, fixed_property, all_fixed, fixed_class, freeze, set_prototype_of, same_prototype, on_chain, longest, Method, DefineOwnProperty, Delete, PreventExtensions, SetPrototypeOf, Freeze, apply_method}
+
+abbrev Written : (ObjectRecord → Type 0) → Outcome → Type 0
+Written P out = IfSome out.written P
+
+cond_written : (P : ObjectRecord → Type 0) (b : Bool) (x y : Outcome) → Written P x → Written P y → Written P (cond b x y)
+cond_written P true x y p q = p
+cond_written P false x y p q = q
+
+-- a define writes one property
+validated : (P : ObjectRecord → Type 0) (o : ObjectRecord) (key : Key) (d : PropertyDescriptor) (current : Option Property) → ((p : Property) → P (with_property o key p)) → Written P (validate_and_apply_property_descriptor o key d current)
+unfolding validate_and_apply_property_descriptor
+validated P o key d None h = cond_written P o.extensible (wrote (with_property o key (new_property d))) refused (h (new_property d)) tt
+validated P o key d (Some current) h =
+    cond_written P (has_fields d) (cond (not current.configurable && forbidden current d) refused (wrote (with_property o key (applied current d)))) unchanged
+      (cond_written P (not current.configurable && forbidden current d) refused (wrote (with_property o key (applied current d))) tt (h (applied current d))) tt
+
+-- ---- by class: an object of these parts
+
+abbrev of_parts : Class → Option ℕ → Bool → List (ℕ × Property) → List (Text × Property) → ObjectRecord
+of_parts c prototype extensible indexed named = record { class = c; prototype = prototype; extensible = extensible; indexed = indexed; named = named }
+
+module _ (prototype : Option ℕ) (extensible : Bool) (is : List (ℕ × Property)) (ns : List (Text × Property)) where
+  abbrev this : Class → ObjectRecord
+  this c = of_parts c prototype extensible is ns
+
+  -- a new index, with the length that it raises
+  raised_orderly : (c : Class) (i : ℕ) (p : Property) → i < 4294967295 → IsOrderly (this c) → IsOrderly (raised i c (with_property (this c) (Index i) p))
+  unfolding with_property
+  raised_orderly (Array n w) i p l h = by_test (nat_lt i n) refl
+    where
+      by_test : (b : Bool) → nat_lt i n ≡ b → IsOrderly (cond b (of_parts (Array n w) prototype extensible (put_index i p is) ns) (of_parts (Array (suc i) w) prototype extensible (put_index i p is) ns))
+      by_test true e = record {
+        indices = put_index_ascending i p is h.indices;
+        range = put_index_below 4294967295 i p is l h.range;
+        length = (h.length.0, put_index_below n i p is (grind (arith, nat_tests)) h.length.1);
+        names = h.names;
+        no_index = h.no_index;
+        no_length = h.no_length;
+      }
+      by_test false e =
+          let past : n ≤ i = grind (arith, nat_tests) in
+          record {
+            indices = put_index_ascending i p is h.indices;
+            range = put_index_below 4294967295 i p is l h.range;
+            length = (omega arith, put_index_below (suc i) i p is (omega arith) (all_below_more n (suc i) is (omega arith) h.length.1));
+            names = h.names;
+            no_index = h.no_index;
+            no_length = h.no_length;
+          }
+  raised_orderly c i p l h = record {
+    indices = put_index_ascending i p is h.indices;
+    range = put_index_below 4294967295 i p is l h.range;
+    length = tt;
+    names = h.names;
+    no_index = h.no_index;
+    no_length = tt;
+  }
+
+  -- a string that is no array's `length`
+  named_orderly : (c : Class) (t : Text) (p : Property) → index_of_text t ≡ None → is_length_of c t ≡ false → IsOrderly (this c) → IsOrderly (of_parts c prototype extensible is (put_name t p ns))
+  named_orderly (Array n w) t p k e h = record {
+    indices = h.indices;
+    range = h.range;
+    length = h.length;
+    names = put_name_distinct t p ns h.names;
+    no_index = put_name_no_index t p ns k h.no_index;
+    no_length = found-put_name length_name t p ns ∙ ap (λ b. cond b (Some p) (found (same_text length_name) ns)) (same_text_sym length_name t ∙ e) ∙ h.no_length;
+  }
+  named_orderly c t p k e h = record {
+    indices = h.indices;
+    range = h.range;
+    length = tt;
+    names = put_name_distinct t p ns h.names;
+    no_index = put_name_no_index t p ns k h.no_index;
+    no_length = tt;
+  }
+
+  string_orderly : (c : Class) (t : Text) (p : Property) → index_of_text t ≡ None → is_length_of c t ≡ false → IsOrderly (this c) → IsOrderly (with_string (this c) t p)
+  string_orderly c t p k e h =
+      subst (λ b. IsOrderly (cond b (with_length (this c) p.content) (of_parts c prototype extensible is (put_name t p ns)))) (sym e) (named_orderly c t p k e h)
+
+  -- ---- an array's `length`
+
+  -- another length that all indices are below
+  length_orderly : (n m : ℕ) (w v : Bool) → m < 4294967296 → AllBelow m is → IsOrderly (this (Array n w)) → IsOrderly (this (Array m v))
+  length_orderly n m w v l b h = record {
+    indices = h.indices;
+    range = h.range;
+    length = (l, b);
+    names = h.names;
+    no_index = h.no_index;
+    no_length = h.no_length;
+  }
+
+  -- a value for `length` that is no lower one
+  abbrev NoLower : ℕ → Option Value → Type 0
+  NoLower n None = Unit {0}
+  NoLower n (Some v) = (m : ℕ) × (v ≡ Number (pos m)) × (n ≤ m) × (m < 4294967296)
+
+  any_of : (x y z a g : Bool) → a ≡ true → (((x || y) || (not (not a && not g) && not (same_bool a false))) || z) ≡ true
+  any_of true y z a g e = refl
+  any_of false true z a g e = refl
+  any_of false false z true g e = refl
+  any_of false false z false g e = absurd (cc)
+
+  -- `length` takes no accessor
+  accessor_forbidden : (n : ℕ) (w : Bool) (d : PropertyDescriptor) → is_accessor_descriptor d ≡ true → forbidden (length_property n w) d ≡ true
+  accessor_forbidden n w d e =
+      any_of (differs d.configurable false) (differs d.enumerable false) (forbidden_content (Data (Number (pos n)) w) d) (is_accessor_descriptor d) (is_data_descriptor d) e
+
+  length_written : (n : ℕ) (w : Bool) (d : PropertyDescriptor) (value : Option Value) → NoLower n value → IsOrderly (this (Array n w)) → IsOrderly (with_length (this (Array n w)) (Data (unwrap_or value (Number (pos n))) (unwrap_or d.writable w)))
+  length_written n w d None l h = length_orderly n n w (unwrap_or d.writable w) h.length.0 h.length.1 h
+  length_written n w d (Some v) l h =
+      subst (λ v. IsOrderly (with_length (this (Array n w)) (Data v (unwrap_or d.writable w)))) (sym l.1)
+        (length_orderly n l.0 w (unwrap_or d.writable w) l.3 (all_below_more n l.0 is l.2 h.length.1) h)
+
+  length_defined : (n : ℕ) (w : Bool) (d : PropertyDescriptor) → NoLower n d.value → IsOrderly (this (Array n w)) → Written IsOrderly (ordinary_define_own_property (this (Array n w)) (Named length_name) d)
+  unfolding validate_and_apply_property_descriptor own_property with_property
+  length_defined n w d l h = cond_written IsOrderly (has_fields d) (cond (forbidden (length_property n w) d) refused (wrote (after (is_accessor_descriptor d)))) unchanged (by_kind (is_accessor_descriptor d) refl) tt
+    where
+      after : Bool → ObjectRecord
+      after b = with_length (this (Array n w)) (cond b (new_content d) (Data (unwrap_or d.value (Number (pos n))) (unwrap_or d.writable w)))
+
+      by_kind : (b : Bool) → is_accessor_descriptor d ≡ b → Written IsOrderly (cond (forbidden (length_property n w) d) refused (wrote (after b)))
+      by_kind true e = subst (λ f. Written IsOrderly (cond f refused (wrote (after true)))) (sym (accessor_forbidden n w d e)) tt
+      by_kind false e = cond_written IsOrderly (forbidden (length_property n w) d) refused (wrote (after false)) tt (length_written n w d d.value l h)
+
+  -- ---- lowering it
+
+  elements_above : (n j : ℕ) (es : List (ℕ × Property)) → AllAbove j es → AllAbove j (elements_below n es)
+  elements_above n j [] a = tt
+  elements_above n j (e ∷ es) a = by_test (nat_lt e.0 n) (elements_above n j es a.1)
+    where
+      by_test : (b : Bool) → AllAbove j (elements_below n es) → AllAbove j (cond b (e ∷ elements_below n es) (elements_below n es))
+      by_test true rest = (a.0, rest)
+      by_test false rest = rest
+
+  elements_ascending : (n : ℕ) (es : List (ℕ × Property)) → Ascending es → Ascending (elements_below n es)
+  elements_ascending n [] a = tt
+  elements_ascending n (e ∷ es) a = by_test (nat_lt e.0 n) (elements_ascending n es a.1)
+    where
+      by_test : (b : Bool) → Ascending (elements_below n es) → Ascending (cond b (e ∷ elements_below n es) (elements_below n es))
+      by_test true rest = (elements_above n e.0 es a.0, rest)
+      by_test false rest = rest
+
+  elements_range : (n m : ℕ) (es : List (ℕ × Property)) → AllBelow m es → AllBelow m (elements_below n es)
+  elements_range n m [] a = tt
+  elements_range n m (e ∷ es) a = by_test (nat_lt e.0 n) (elements_range n m es a.1)
+    where
+      by_test : (b : Bool) → AllBelow m (elements_below n es) → AllBelow m (cond b (e ∷ elements_below n es) (elements_below n es))
+      by_test true rest = (a.0, rest)
+      by_test false rest = rest
+
+  elements_all_below : (n : ℕ) (es : List (ℕ × Property)) → AllBelow n (elements_below n es)
+  elements_all_below n [] = tt
+  elements_all_below n (e ∷ es) = by_test (nat_lt e.0 n) refl (elements_all_below n es)
+    where
+      by_test : (b : Bool) → nat_lt e.0 n ≡ b → AllBelow n (elements_below n es) → AllBelow n (cond b (e ∷ elements_below n es) (elements_below n es))
+      by_test true q rest = (grind (arith, nat_tests), rest)
+      by_test false q rest = rest
+
+  lowest_fits : (new : ℕ) (es : List (ℕ × Property)) → new < 4294967296 → AllBelow 4294967295 es → lowest_length new es < 4294967296
+  lowest_fits new [] l a = l
+  lowest_fits new (e ∷ es) l a = lowest_fits (cond (not e.1.configurable && nat_le new e.0) (suc e.0) new) es (by_test (not e.1.configurable && nat_le new e.0)) a.1
+    where
+      by_test : (b : Bool) → cond b (suc e.0) new < 4294967296
+      by_test true = omega (arith, a.0)
+      by_test false = l
+
+  reached_orderly : (n reached : ℕ) (w v : Bool) → reached < 4294967296 → IsOrderly (this (Array n w)) → IsOrderly (of_parts (Array reached v) prototype extensible (elements_below reached is) ns)
+  reached_orderly n reached w v l h = record {
+    indices = elements_ascending reached is h.indices;
+    range = elements_range reached 4294967295 is h.range;
+    length = (l, elements_all_below reached is);
+    names = h.names;
+    no_index = h.no_index;
+    no_length = h.no_length;
+  }
+
+  lowered_orderly : (n new reached : ℕ) (w v : Bool) → reached < 4294967296 → IsOrderly (this (Array n w)) → Written IsOrderly (lowered (this (Array n w)) n new reached v)
+  lowered_orderly n new reached w v l h = by_test (reached == n && v)
+    where
+      by_test : (b : Bool) → IfSome (cond b None (Some (of_parts (Array reached v) prototype extensible (elements_below reached is) ns))) IsOrderly
+      by_test true = tt
+      by_test false = reached_orderly n reached w v l h
+
+  set_length_orderly : (n new : ℕ) (w : Bool) (d : PropertyDescriptor) → d.value ≡ Some (Number (pos new)) → new < 4294967296 → IsOrderly (this (Array n w)) → Written IsOrderly (set_length_to (this (Array n w)) n w d new)
+  set_length_orderly n new w d e l h = by_order (nat_le n new) refl
+    where
+      lower : Outcome
+      lower = cond (w && (ordinary_define_own_property (this (Array n w)) (Named length_name) d).answer) (lowered (this (Array n w)) n new (lowest_length new is) (unwrap_or d.writable true)) refused
+
+      by_order : (b : Bool) → nat_le n new ≡ b → Written IsOrderly (cond b (ordinary_define_own_property (this (Array n w)) (Named length_name) d) lower)
+      by_order true q = length_defined n w d (subst (λ o. NoLower n o) (sym e) (new, refl, grind (arith, nat_tests), l)) h
+      by_order false q = cond_written IsOrderly (w && (ordinary_define_own_property (this (Array n w)) (Named length_name) d).answer) (lowered (this (Array n w)) n new (lowest_length new is) (unwrap_or d.writable true)) refused (lowered_orderly n new (lowest_length new is) w (unwrap_or d.writable true) (lowest_fits new is l h.range) h) tt
