@@ -1,10 +1,10 @@
 -- Own keys are distinct and in order, and every method keeps them so.
-use Rattle.std.proofs.Common.{◌≡◌, ◌≢◌, ℕ, zero, suc, ◌+◌, ◌<◌, ◌≤◌, Bool, true, false, cond, not, ◌&&◌, ◌||◌, List, [], ◌∷◌, ◌++◌, length, nat_lt, nat_le, ◌==◌, ℤ, pos, negsuc, arith, refl, sym, ap, ◌∙◌, subst, Option, Some, None, IfSome, option_map, unwrap_or, is_some}
+use Rattle.std.proofs.Common.{◌≡◌, ◌≢◌, ℕ, zero, suc, ◌+◌, ◌<◌, ◌≤◌, Bool, true, false, cond, not, ◌&&◌, ◌||◌, nat_eq, List, [], ◌∷◌, ◌++◌, length, nat_lt, nat_le, ◌==◌, ℤ, pos, negsuc, arith, refl, sym, ap, ◌∙◌, subst, Option, Some, None, IfSome, option_map, unwrap_or, is_some}
 use Rattle.std.specs.Option.{option_map_or}
 use Rattle.std.proofs.lemmas.Bool.Decides.{nat_tests}
 use Rattle.js_value.specs.Number.{index_of_text, text_of_number}
 use Rattle.js_value.specs.Value.{Value, Undefined, Null, Boolean, Number, String, Object, Text, same_text, Key, Index, Named, Numeral, is_index, text_of_key}
-use Rattle.js_value.specs.Store.{Store, Thing, AnObject, Property, Content, Data, Accessor, Class, Ordinary, Array, ScriptFunction, BuiltInFunction, ResolveFunction, RejectFunction, Error, Promise, ObjectRecord, own_property, with_property, without_property, with_string, with_length, is_length_of, put_name, put_index, removed, found, length_name, length_property, strings}
+use Rattle.js_value.specs.Store.{Store, Thing, AnObject, Property, Content, Data, Accessor, Class, Ordinary, Array, ScriptFunction, BuiltInFunction, ResolveFunction, RejectFunction, Error, Promise, ObjectRecord, own_property, with_property, without_property, with_string, with_length, is_length_of, put_name, put_index, removed, found, length_name, length_property, length_entry, strings}
 use Rattle.js_value.specs.Order.{IsKey, AllAbove, AllBelow, Ascending, Distinct, NoIndexText, FitsLength, NoLength, IsOrderly}
 use Rattle.js_value.proofs.Entries.{put_name_distinct, put_name_no_index, found-put_name, removed_none, removed_distinct, removed_no_index, all_below_more, put_index_below, put_index_ascending, removed_below, removed_ascending, same_text_sym}
 use Rattle.es_model.specs.Equality.{same_bool}
@@ -204,3 +204,204 @@ module _ (prototype : Option ℕ) (extensible : Bool) (is : List (ℕ × Propert
       by_order : (b : Bool) → nat_le n new ≡ b → Written IsOrderly (cond b (ordinary_define_own_property (this (Array n w)) (Named length_name) d) lower)
       by_order true q = length_defined n w d (subst (λ o. NoLower n o) (sym e) (new, refl, grind (arith, nat_tests), l)) h
       by_order false q = cond_written IsOrderly (w && (ordinary_define_own_property (this (Array n w)) (Named length_name) d).answer) (lowered (this (Array n w)) n new (lowest_length new is) (unwrap_or d.writable true)) refused (lowered_orderly n new (lowest_length new is) w (unwrap_or d.writable true) (lowest_fits new is l h.range) h) tt
+
+  -- ---- [[DefineOwnProperty]]
+
+  length_set_orderly : (n : ℕ) (w : Bool) (d : PropertyDescriptor) (o : Option Value) → d.value ≡ o → IsOrderly (this (Array n w)) → Written IsOrderly (length_set_by (this (Array n w)) n w d o)
+  length_set_orderly n w d None e h = length_defined n w d (subst (λ o. NoLower n o) (sym e) tt) h
+  length_set_orderly n w d (Some (Number (pos m))) e h = by_test (nat_lt m 4294967296) refl
+    where
+      by_test : (b : Bool) → nat_lt m 4294967296 ≡ b → Written IsOrderly (option_map_or (set_length_to (this (Array n w)) n w d) (cond b (Some m) None) refused)
+      by_test true q = set_length_orderly n m w d e (grind (arith, nat_tests)) h
+      by_test false q = tt
+  length_set_orderly n w d (Some (Number (negsuc m))) e h = tt
+  length_set_orderly n w d (Some Undefined) e h = tt
+  length_set_orderly n w d (Some Null) e h = tt
+  length_set_orderly n w d (Some (Boolean b)) e h = tt
+  length_set_orderly n w d (Some (String t)) e h = tt
+  length_set_orderly n w d (Some (Object k)) e h = tt
+
+  mapped : (f : ObjectRecord → ObjectRecord) (o : Option ObjectRecord) → IfSome o (λ x. IsOrderly (f x)) → IfSome (option_map f o) IsOrderly
+  mapped f None h = tt
+  mapped f (Some x) h = h
+
+  index_orderly : (c : Class) (i : ℕ) (d : PropertyDescriptor) → i < 4294967295 → IsOrderly (this c) → IfSome (option_map (raised i c) (ordinary_define_own_property (this c) (Index i) d).written) IsOrderly
+  index_orderly c i d l h =
+      mapped (raised i c) (ordinary_define_own_property (this c) (Index i) d).written
+        (validated (λ o. IsOrderly (raised i c o)) (this c) (Index i) d (own_property (this c) (Index i)) (λ p. raised_orderly c i p l h))
+
+  name_defined : (c : Class) (t : Text) (d : PropertyDescriptor) → index_of_text t ≡ None → is_length_of c t ≡ false → IsOrderly (this c) → Written IsOrderly (ordinary_define_own_property (this c) (Named t) d)
+  unfolding with_property
+  name_defined c t d k e h = validated IsOrderly (this c) (Named t) d (own_property (this c) (Named t)) (λ p. string_orderly c t p k e h)
+
+  numeral_defined : (c : Class) (z : ℤ) (d : PropertyDescriptor) → index_of_text (text_of_number z) ≡ None → is_length_of c (text_of_number z) ≡ false → IsOrderly (this c) → Written IsOrderly (ordinary_define_own_property (this c) (Numeral z) d)
+  unfolding with_property
+  numeral_defined c z d k e h = validated IsOrderly (this c) (Numeral z) d (own_property (this c) (Numeral z)) (λ p. string_orderly c (text_of_number z) p k e h)
+
+  array_orderly : (n : ℕ) (w : Bool) (key : Key) (d : PropertyDescriptor) → IsKey key → IsOrderly (this (Array n w)) → Written IsOrderly (array_define_own_property (this (Array n w)) n w key d)
+  array_orderly n w (Index i) d k h = by_test (nat_le n i && not w)
+    where
+      by_test : (b : Bool) → Written IsOrderly (cond b refused (record { answer = (ordinary_define_own_property (this (Array n w)) (Index i) d).answer; written = option_map (raised i (Array n w)) (ordinary_define_own_property (this (Array n w)) (Index i) d).written }))
+      by_test true = tt
+      by_test false = index_orderly (Array n w) i d k h
+  array_orderly n w (Named t) d k h = by_test (same_text t length_name) refl
+    where
+      by_test : (b : Bool) → same_text t length_name ≡ b → Written IsOrderly (cond b (array_set_length (this (Array n w)) n w d) (ordinary_define_own_property (this (Array n w)) (Named t) d))
+      by_test true e = length_set_orderly n w d d.value refl h
+      by_test false e = name_defined (Array n w) t d k e h
+  array_orderly n w (Numeral z) d k h = by_test (same_text (text_of_number z) length_name) refl
+    where
+      by_test : (b : Bool) → same_text (text_of_number z) length_name ≡ b → Written IsOrderly (cond b (array_set_length (this (Array n w)) n w d) (ordinary_define_own_property (this (Array n w)) (Numeral z) d))
+      by_test true e = length_set_orderly n w d d.value refl h
+      by_test false e = numeral_defined (Array n w) z d k e h
+
+  other_orderly : (c : Class) (key : Key) (d : PropertyDescriptor) → ((i : ℕ) (o : ObjectRecord) → raised i c o ≡ o) → ((t : Text) → is_length_of c t ≡ false) → IsKey key → IsOrderly (this c) → Written IsOrderly (ordinary_define_own_property (this c) key d)
+  other_orderly c (Index i) d flat named k h = validated IsOrderly (this c) (Index i) d (own_property (this c) (Index i)) (λ p. subst IsOrderly (flat i (with_property (this c) (Index i) p)) (raised_orderly c i p k h))
+  other_orderly c (Named t) d flat named k h = name_defined c t d k (named t) h
+  other_orderly c (Numeral z) d flat named k h = numeral_defined c z d k (named (text_of_number z)) h
+
+  class_orderly : (c : Class) (key : Key) (d : PropertyDescriptor) → IsKey key → IsOrderly (this c) → Written IsOrderly (define_by_class c (this c) key d)
+  class_orderly (Array n w) key d k h = array_orderly n w key d k h
+  class_orderly c key d k h = other_orderly c key d (λ i o. refl) (λ t. refl) k h
+
+  -- ---- freezing
+
+  fixed_above : (j : ℕ) (es : List (ℕ × Property)) → AllAbove j es → AllAbove j (all_fixed es)
+  fixed_above j [] a = tt
+  fixed_above j (e ∷ es) a = (a.0, fixed_above j es a.1)
+
+  fixed_below : (n : ℕ) (es : List (ℕ × Property)) → AllBelow n es → AllBelow n (all_fixed es)
+  fixed_below n [] a = tt
+  fixed_below n (e ∷ es) a = (a.0, fixed_below n es a.1)
+
+  fixed_ascending : (es : List (ℕ × Property)) → Ascending es → Ascending (all_fixed es)
+  fixed_ascending [] a = tt
+  fixed_ascending (e ∷ es) a = (fixed_above e.0 es a.0, fixed_ascending es a.1)
+
+  fixed_none : (k : Text) (es : List (Text × Property)) → found (same_text k) es ≡ None → found (same_text k) (all_fixed es) ≡ None
+  fixed_none k [] n = refl
+  fixed_none k (e ∷ es) n = by_test (same_text k e.0) n (fixed_none k es)
+    where
+      by_test : (b : Bool) → cond b (Some e.1) (found (same_text k) es) ≡ None → (found (same_text k) es ≡ None → found (same_text k) (all_fixed es) ≡ None) → cond b (Some (fixed_property e.1)) (found (same_text k) (all_fixed es)) ≡ None
+      by_test true m rest = absurd (cc)
+      by_test false m rest = rest m
+
+  fixed_distinct : (es : List (Text × Property)) → Distinct es → Distinct (all_fixed es)
+  fixed_distinct [] d = tt
+  fixed_distinct (e ∷ es) d = (fixed_none e.0 es d.0, fixed_distinct es d.1)
+
+  fixed_no_index : (es : List (Text × Property)) → NoIndexText es → NoIndexText (all_fixed es)
+  fixed_no_index [] d = tt
+  fixed_no_index (e ∷ es) d = (d.0, fixed_no_index es d.1)
+
+  frozen_orderly : (c : Class) → IsOrderly (this c) → IsOrderly (of_parts (fixed_class c) prototype false (all_fixed is) (all_fixed ns))
+  frozen_orderly (Array n w) h = record {
+    indices = fixed_ascending is h.indices;
+    range = fixed_below 4294967295 is h.range;
+    length = (h.length.0, fixed_below n is h.length.1);
+    names = fixed_distinct ns h.names;
+    no_index = fixed_no_index ns h.no_index;
+    no_length = fixed_none length_name ns h.no_length;
+  }
+  frozen_orderly c h = record {
+    indices = fixed_ascending is h.indices;
+    range = fixed_below 4294967295 is h.range;
+    length = tt;
+    names = fixed_distinct ns h.names;
+    no_index = fixed_no_index ns h.no_index;
+    no_length = tt;
+  }
+
+  -- ---- [[Delete]]
+
+  unindexed_orderly : (c : Class) (test : ℕ → Bool) → IsOrderly (this c) → IsOrderly (of_parts c prototype extensible (removed test is) ns)
+  unindexed_orderly (Array n w) test h = record {
+    indices = removed_ascending test is h.indices;
+    range = removed_below 4294967295 test is h.range;
+    length = (h.length.0, removed_below n test is h.length.1);
+    names = h.names;
+    no_index = h.no_index;
+    no_length = h.no_length;
+  }
+  unindexed_orderly c test h = record {
+    indices = removed_ascending test is h.indices;
+    range = removed_below 4294967295 test is h.range;
+    length = tt;
+    names = h.names;
+    no_index = h.no_index;
+    no_length = tt;
+  }
+
+  unnamed_orderly : (c : Class) (test : Text → Bool) → IsOrderly (this c) → IsOrderly (of_parts c prototype extensible is (removed test ns))
+  unnamed_orderly (Array n w) test h = record {
+    indices = h.indices;
+    range = h.range;
+    length = h.length;
+    names = removed_distinct test ns h.names;
+    no_index = removed_no_index test ns h.no_index;
+    no_length = removed_none length_name test ns h.no_length;
+  }
+  unnamed_orderly c test h = record {
+    indices = h.indices;
+    range = h.range;
+    length = tt;
+    names = removed_distinct test ns h.names;
+    no_index = removed_no_index test ns h.no_index;
+    no_length = tt;
+  }
+
+  without_orderly : (c : Class) (key : Key) → IsOrderly (this c) → IsOrderly (without_property (this c) key)
+  unfolding without_property
+  without_orderly c (Index i) h = unindexed_orderly c (nat_eq i) h
+  without_orderly c (Named t) h = unnamed_orderly c (same_text t) h
+  without_orderly c (Numeral z) h = unnamed_orderly c (same_text (text_of_number z)) h
+
+-- an object keeps its order where its class and its properties stay
+parts_orderly : (o : ObjectRecord) (prototype : Option ℕ) (extensible : Bool) → IsOrderly o → IsOrderly (of_parts o.class prototype extensible o.indexed o.named)
+parts_orderly o prototype extensible h = record {
+  indices = h.indices;
+  range = h.range;
+  length = h.length;
+  names = h.names;
+  no_index = h.no_index;
+  no_length = h.no_length;
+}
+
+define_orderly : (o : ObjectRecord) (key : Key) (d : PropertyDescriptor) → IsKey key → IsOrderly o → Written IsOrderly (define_own_property o key d)
+unfolding define_own_property
+define_orderly o key d k h =
+    cond_written IsOrderly (is_index key && is_accessor_descriptor d) refused (define_by_class o.class o key d) tt
+      (class_orderly o.prototype o.extensible o.indexed o.named o.class key d k h)
+
+delete_orderly : (o : ObjectRecord) (key : Key) (p : Option Property) → IsOrderly o → Written IsOrderly (ordinary_delete o key p)
+delete_orderly o key None h = tt
+delete_orderly o key (Some p) h =
+    cond_written IsOrderly p.configurable (wrote (without_property o key)) refused (without_orderly o.prototype o.extensible o.indexed o.named o.class key h) tt
+
+prototype_orderly : (s : Store) (n : ℕ) (v : Option ℕ) (o : ObjectRecord) → IsOrderly o → Written IsOrderly (set_prototype_of s n v o)
+unfolding set_prototype_of
+prototype_orderly s n v o h =
+    cond_written IsOrderly (same_prototype v o.prototype) unchanged (cond (not o.extensible || on_chain longest s n v) refused (wrote (record o { prototype = v }))) tt
+      (cond_written IsOrderly (not o.extensible || on_chain longest s n v) refused (wrote (record o { prototype = v })) tt (parts_orderly o v o.extensible h))
+
+-- the key of a define is a key
+abbrev pub HasKey : Method → Type 0
+HasKey (DefineOwnProperty key d) = IsKey key
+HasKey _ = Unit {0}
+
+pub method_orderly : (m : Method) (s : Store) (n : ℕ) (o : ObjectRecord) → HasKey m → IsOrderly o → IfSome (apply_method m s n o).written IsOrderly
+unfolding apply_method delete_own_property prevent_extensions freeze
+method_orderly (DefineOwnProperty key d) s n o k h = define_orderly o key d k h
+method_orderly (Delete key) s n o k h = delete_orderly o key (own_property o key) h
+method_orderly PreventExtensions s n o k h = parts_orderly o o.prototype false h
+method_orderly (SetPrototypeOf v) s n o k h = prototype_orderly s n v o h
+method_orderly Freeze s n o k h = frozen_orderly o.prototype o.extensible o.indexed o.named o.class h
+
+-- ---- own keys are distinct
+
+pub strings_distinct : (o : ObjectRecord) → IsOrderly o → Distinct (strings o)
+strings_distinct o h = by_class o.class h.no_length
+  where
+    by_class : (c : Class) → NoLength c o.named → Distinct (length_entry c ++ o.named)
+    by_class (Array n w) l = (l, h.names)
+    by_class c l = h.names
