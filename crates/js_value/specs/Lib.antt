@@ -2,3 +2,4 @@ pub mod Number
 pub mod Order
 pub mod Store
 pub mod Value
+pub mod WellFormed
