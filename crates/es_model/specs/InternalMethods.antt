@@ -238,10 +238,10 @@ find_property s key n = property_from longest s key (Some n)
 abbrev pub has_property : Store → Key → ℕ → Bool
 has_property s key n = is_some (find_property s key n)
 
--- an object is on the chain that begins there
+-- An object is on the chain that begins there. A chain that is longer than any store's counts as one that comes back.
 unfoldable pub on_chain : (fuel : ℕ) → Store → ℕ → Option ℕ → Bool
-on_chain zero s n p = false
-on_chain (suc fuel) s n None = false
+on_chain fuel s n None = false
+on_chain zero s n (Some p) = true
 on_chain (suc fuel) s n (Some p) = (p == n) || on_chain fuel s n (object_in s p).prototype
 
 -- ---- [[SetPrototypeOf]]: OrdinarySetPrototypeOf (10.1.2.1)

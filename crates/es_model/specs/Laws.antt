@@ -1,10 +1,14 @@
 -- What the laws of acts are stated in.
-use Rattle.std.specs.Prelude.{◌≡◌, ℕ, suc, ◌≤◌, Bool, false, ◌==◌, List, ◌++◌, length, Option, Some, None}
+use Rattle.std.specs.Prelude.{◌≡◌, ℕ, suc, ◌≤◌, ◌<◌, Bool, false, ◌==◌, List, [], ◌∷◌, ◌++◌, length, IfSome, Option, Some, None}
 use Rattle.js_value.specs.Value.{Value, Text}
-use Rattle.es_model.specs.State.{World, State, Ledger, Counts}
+use Rattle.js_value.specs.Store.{Reaction}
+use Rattle.js_value.specs.Order.{IsKey, IsOrderly}
+use Rattle.js_value.specs.WellFormed.{IsValueBelow, IfValueBelow, IfNumberBelow, AreNumbersBelow, AreValuesBelow, IsContentBelow, IsStateBelow, IsReactionBelow, AreReactionsBelow, IsObjectBelow, IsThingBelow, IsThingOrderly, IsWellFormed}
+use Rattle.es_model.specs.State.{World, State, Ledger, Counts, Job, FulfilJob, RejectJob, ThenableJob}
 use Rattle.es_model.specs.Ledger.{Event, Happens, Stops, Stop, OutOf}
-use Rattle.es_model.specs.Events.{Deed, Apply, Attach, SetCell, SetMark, Settle, AddReaction}
-use Rattle.es_model.specs.Act.{Completion, Ran, Ends, Halts, Calls, with_world}
+use Rattle.es_model.specs.InternalMethods.{PropertyDescriptor, Method, DefineOwnProperty, SetPrototypeOf, SetStep, RefusesSet, CallsSetter, DefinesOn}
+use Rattle.es_model.specs.Events.{Question, Reply, TheObject, TheCell, TheMark, TheProperty, TheSetStep, TheIntrinsic, TheInput, Deed, Answer, Make, Apply, Attach, SetCell, SetMark, Settle, AddReaction, Enqueue, Dequeue, AddRejection}
+use Rattle.es_model.specs.Act.{Act, Give, Throw, Halt, Turn, Ask, Do, Call, Try, Completion, NormalCompletion, ThrowCompletion, Ran, Ends, Halts, Calls, with_world}
 
 -- ---- two ways of calling that agree
 
@@ -71,3 +75,95 @@ changes (SetMark n) k = n == k
 changes (Settle n state) k = n == k
 changes (AddReaction n r) k = n == k
 changes _ k = false
+
+-- ---- what speaks only of things below m
+
+pub record IsDescriptorBelow (m : ℕ) (d : PropertyDescriptor) : Type 0 where
+  pub value : IfValueBelow m d.value
+  pub get : IfValueBelow m d.get
+  pub set : IfValueBelow m d.set
+
+-- a method's key is a key, too
+abbrev pub IsMethodBelow : ℕ → Method → Type 0
+IsMethodBelow m (DefineOwnProperty key d) = IsKey key × IsDescriptorBelow m d
+IsMethodBelow m (SetPrototypeOf v) = IfNumberBelow m v
+IsMethodBelow m _ = Unit {0}
+
+abbrev pub IsJobBelow : ℕ → Job → Type 0
+IsJobBelow m (FulfilJob handler derived argument) = IsValueBelow m handler × (derived < m) × IsValueBelow m argument
+IsJobBelow m (RejectJob handler derived argument) = IsValueBelow m handler × (derived < m) × IsValueBelow m argument
+IsJobBelow m (ThenableJob promise thenable next) = (promise < m) × IsValueBelow m thenable × IsValueBelow m next
+
+abbrev pub AreJobsBelow : ℕ → List Job → Type 0
+AreJobsBelow m [] = Unit {0}
+AreJobsBelow m (job ∷ jobs) = IsJobBelow m job × AreJobsBelow m jobs
+
+-- a thing that is made is in order itself
+abbrev pub IsDeedBelow : ℕ → Deed → Type 0
+IsDeedBelow m (Make t) = IsThingBelow m t × IsThingOrderly t
+IsDeedBelow m (Apply n method) = IsMethodBelow m method
+IsDeedBelow m (Attach f p) = p < m
+IsDeedBelow m (SetCell n v) = IsValueBelow m v
+IsDeedBelow m (Settle n state) = IsStateBelow m state
+IsDeedBelow m (AddReaction n r) = IsReactionBelow m r
+IsDeedBelow m (Enqueue job) = IsJobBelow m job
+IsDeedBelow m (AddRejection n) = n < m
+IsDeedBelow m _ = Unit {0}
+
+abbrev pub IsStepBelow : ℕ → SetStep → Type 0
+IsStepBelow m RefusesSet = Unit {0}
+IsStepBelow m (CallsSetter f) = IsValueBelow m f
+IsStepBelow m (DefinesOn r d) = (r < m) × IsDescriptorBelow m d
+
+-- what a question answers
+abbrev pub IsReplyBelow : ℕ → (q : Question) → Reply q → Type 0
+IsReplyBelow m (TheObject n) o = IsObjectBelow m o × IsOrderly o
+IsReplyBelow m (TheCell n) c = IfValueBelow m c.value
+IsReplyBelow m (TheMark n) b = Unit {0}
+IsReplyBelow m (TheProperty key n) p = IfSome p (λ q. IsContentBelow m q.content)
+IsReplyBelow m (TheSetStep key v receiver found) step = IsStepBelow m step
+IsReplyBelow m (TheIntrinsic at) n = n < m
+IsReplyBelow m TheInput input = Unit {0}
+
+abbrev pub IsQuestionBelow : ℕ → Question → Type 0
+IsQuestionBelow m (TheSetStep key v receiver found) = IsValueBelow m v × IsValueBelow m receiver × IfSome found (λ q. IsContentBelow m q.content)
+IsQuestionBelow m _ = Unit {0}
+
+abbrev pub IsJobAnswerBelow : ℕ → Option Job → Type 0
+IsJobAnswerBelow m None = Unit {0}
+IsJobAnswerBelow m (Some job) = IsJobBelow m job
+
+abbrev pub AreReactionAnswersBelow : ℕ → Option (List Reaction) → Type 0
+AreReactionAnswersBelow m None = Unit {0}
+AreReactionAnswersBelow m (Some reactions) = AreReactionsBelow m reactions
+
+-- what a deed answers
+abbrev pub IsAnswerBelow : ℕ → (d : Deed) → Answer d → Type 0
+IsAnswerBelow m (Make t) n = n < m
+IsAnswerBelow m (Settle n state) reactions = AreReactionAnswersBelow m reactions
+IsAnswerBelow m Dequeue job = IsJobAnswerBelow m job
+IsAnswerBelow m _ a = Unit {0}
+
+abbrev pub IsCompletionBelow : ℕ → Completion → Type 0
+IsCompletionBelow m (NormalCompletion v) = IsValueBelow m v
+IsCompletionBelow m (ThrowCompletion v) = IsValueBelow m v
+
+-- An act speaks only of things below m, and what it goes on with of things that stand by then.
+abbrev pub IsActBelow : ℕ → Act → Type 0
+IsActBelow m (Give v) = IsValueBelow m v
+IsActBelow m (Throw v) = IsValueBelow m v
+IsActBelow m (Halt stop) = Unit {0}
+IsActBelow m (Turn p) = IsActBelow m p
+IsActBelow m (Ask q k) = IsQuestionBelow m q × ((r : Reply q) → IsReplyBelow m q r → IsActBelow m (k r))
+IsActBelow m (Do d k) = IsDeedBelow m d × ((n : ℕ) → m ≤ n → (a : Answer d) → IsAnswerBelow n d a → IsActBelow n (k a))
+IsActBelow m (Call f this vs target k) = IsValueBelow m f × IsValueBelow m this × AreValuesBelow m vs × IfValueBelow m target × ((n : ℕ) → m ≤ n → (v : Value) → IsValueBelow n v → IsActBelow n (k v))
+IsActBelow m (Try f this vs target k) = IsValueBelow m f × IsValueBelow m this × AreValuesBelow m vs × IfValueBelow m target × ((n : ℕ) → m ≤ n → (c : Completion) → IsCompletionBelow n c → IsActBelow n (k c))
+
+-- ---- well-formed worlds: a well-formed store, and all that the world speaks of stands in it
+
+pub record IsWorldWellFormed (w : World) : Type 0 where
+  pub store : IsWellFormed w.store
+  pub jobs : AreJobsBelow (length w.store) w.jobs
+  pub rejections : AreNumbersBelow (length w.store) w.rejections
+  pub realm : AreNumbersBelow (length w.store) w.realm
+  pub not_empty : 0 < length w.store
