@@ -83,3 +83,43 @@ append_chain s t closed chains b n = Next n (by_place (compared n (length s)))
     by_place (inl l) = subst (λ x. ChainEnds (s ++ t ∷ []) (as_object x).prototype) (sym (append_same s n t l)) (append_old s t closed (object_in s n).prototype (closed n) (old_or_none (object_in s n).prototype (closed n)))
     by_place (inr (inl e)) = subst (λ x. ChainEnds (s ++ t ∷ []) (as_object x).prototype) (sym (ap (slice_get (s ++ t ∷ [])) e ∙ append_new s t)) (append_old s t closed (as_object (Some t)).prototype b (old_or_none (as_object (Some t)).prototype b))
     by_place (inr (inr l)) = subst (λ x. ChainEnds (s ++ t ∷ []) (as_object x).prototype) (sym (append_past s t n l)) Ended
+
+-- ---- a prototype that is set
+
+set_here : (P : Option Thing → Type 0) (s : Store) (n : ℕ) (t : Thing) → P (Some t) → P None → P (slice_get (set s n t) n)
+set_here P [] n t new none = none
+set_here P (x ∷ s) zero t new none = new
+set_here P (x ∷ s) (suc n) t new none = set_here P s n t new none
+
+get-set_other : (s : Store) (i j : ℕ) (t : Thing) → i ≢ j → slice_get (set s i t) j ≡ slice_get s j
+get-set_other [] i j t d = refl
+get-set_other (z ∷ s) zero zero t d = absurd (d refl)
+get-set_other (z ∷ s) zero (suc j) t d = refl
+get-set_other (z ∷ s) (suc i) zero t d = refl
+get-set_other (z ∷ s) (suc i) (suc j) t d = get-set_other s i j t (λ e. d (ap (λ n. suc n) e))
+
+none_of : (a b : Bool) → (a || b) ≡ false → (a ≡ false) × (b ≡ false)
+none_of false false e = (refl, refl)
+none_of true b e = absurd (cc)
+none_of false true e = absurd (cc)
+
+apart : (p n : ℕ) → (p == n) ≡ false → n ≢ p
+apart p n d = λ e. let t : (p == n) ≡ true = eq-eqb p n (sym e) in absurd (cc)
+
+-- the chain that doesn't come back ends in the store after, too
+turned_chain : (fuel : ℕ) (s : Store) (n : ℕ) (t : Thing) (v : Option ℕ) → on_chain fuel s n v ≡ false → ChainEnds (set s n t) v
+unfolding on_chain object_in
+turned_chain fuel s n t None e = Ended
+turned_chain zero s n t (Some p) e = absurd (cc)
+turned_chain (suc fuel) s n t (Some p) e =
+    let both : ((p == n) ≡ false) × (on_chain fuel s n (object_in s p).prototype ≡ false) = none_of (p == n) (on_chain fuel s n (object_in s p).prototype) e in
+    Next p (subst (λ x. ChainEnds (set s n t) (as_object x).prototype) (sym (get-set_other s n p t (apart p n both.0))) (turned_chain fuel s n t (object_in s p).prototype both.1))
+
+pub prototype_chain : (s : Store) (n : ℕ) (t : Thing) → on_chain longest s n (as_object (Some t)).prototype ≡ false → (p : Option ℕ) → ChainEnds s p → ChainEnds (set s n t) p
+unfolding object_in
+prototype_chain s n t e p Ended = Ended
+prototype_chain s n t e p (Next k c) = Next k (elim (cases_eq n k) [
+    | inl q ↦ subst (λ j. ChainEnds (set s n t) (as_object (slice_get (set s n t) j)).prototype) q
+        (set_here (λ x. ChainEnds (set s n t) (as_object x).prototype) s n t (turned_chain longest s n t (as_object (Some t)).prototype e) Ended)
+    | inr d ↦ subst (λ x. ChainEnds (set s n t) (as_object x).prototype) (sym (get-set_other s n k t d)) (prototype_chain s n t e (object_in s k).prototype c)
+  ])
