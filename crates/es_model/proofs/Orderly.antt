@@ -397,6 +397,11 @@ method_orderly PreventExtensions s n o k h = parts_orderly o o.prototype false h
 method_orderly (SetPrototypeOf v) s n o k h = prototype_orderly s n v o h
 method_orderly Freeze s n o k h = frozen_orderly o.prototype o.extensible o.indexed o.named o.class h
 
+-- another value for a property that the object has: no `length` of an array
+pub with_property_orderly : (o : ObjectRecord) (t : Text) (p : Property) → index_of_text t ≡ None → is_length_of o.class t ≡ false → IsOrderly o → IsOrderly (with_property o (Named t) p)
+unfolding with_property
+with_property_orderly o t p k e h = string_orderly o.prototype o.extensible o.indexed o.named o.class t p k e h
+
 -- ---- own keys are distinct
 
 pub strings_distinct : (o : ObjectRecord) → IsOrderly o → Distinct (strings o)
