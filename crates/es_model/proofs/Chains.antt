@@ -123,3 +123,8 @@ prototype_chain s n t e p (Next k c) = Next k (elim (cases_eq n k) [
         (set_here (λ x. ChainEnds (set s n t) (as_object x).prototype) s n t (turned_chain longest s n t (as_object (Some t)).prototype e) Ended)
     | inr d ↦ subst (λ x. ChainEnds (set s n t) (as_object x).prototype) (sym (get-set_other s n k t d)) (prototype_chain s n t e (object_in s k).prototype c)
   ])
+
+-- a thing without a prototype ends each chain that comes to it
+pub cut_chain : (s : Store) (n : ℕ) (t : Thing) → (as_object (Some t)).prototype ≡ None → (p : Option ℕ) → ChainEnds s p → ChainEnds (set s n t) p
+unfolding on_chain
+cut_chain s n t e p c = prototype_chain s n t (ap (on_chain longest s n) e) p c
