@@ -167,3 +167,16 @@ pub record IsWorldWellFormed (w : World) : Type 0 where
   pub rejections : AreNumbersBelow (length w.store) w.rejections
   pub realm : AreNumbersBelow (length w.store) w.realm
   pub not_empty : 0 < length w.store
+
+-- ---- runs
+
+-- a run leaves a well-formed world of no fewer things, and ends with what stands there
+abbrev pub IsRanWellFormed : ℕ → Ran → Type 0
+IsRanWellFormed m (Ends c s) = IsWorldWellFormed s.world × (m ≤ length s.world.store) × IsCompletionBelow (length s.world.store) c
+IsRanWellFormed m (Halts stop s) = IsWorldWellFormed s.world
+
+-- a way of calling does so where the function and its arguments stand
+abbrev pub CallsWell : Calls → Type 0
+CallsWell calls = (f this : Value) (arguments : List Value) (target : Option Value) (s : State) → IsWorldWellFormed s.world
+    → IsValueBelow (length s.world.store) f → IsValueBelow (length s.world.store) this → AreValuesBelow (length s.world.store) arguments → IfValueBelow (length s.world.store) target
+    → IsRanWellFormed (length s.world.store) (calls f this arguments target s)
