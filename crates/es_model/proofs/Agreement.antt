@@ -1,9 +1,9 @@
 -- Ways of calling that agree give runs that agree, for every act.
-use Rattle.std.proofs.Common.{◌≡◌, ℕ, zero, suc, List, refl, sym, ap, ◌∙◌, subst, Option, Some, None}
+use Rattle.std.proofs.Common.{◌≡◌, ℕ, zero, suc, refl, sym, subst}
 use Rattle.js_value.specs.Value.{Value}
-use Rattle.es_model.specs.State.{World, State}
-use Rattle.es_model.specs.Ledger.{Event, Happens, Stops, Stop, Budget}
-use Rattle.es_model.specs.Events.{Question, Reply, reply, Deed, Answer, perform}
+use Rattle.es_model.specs.State.{State}
+use Rattle.es_model.specs.Ledger.{Event, Happens, Stops}
+use Rattle.es_model.specs.Events.{reply, perform}
 use Rattle.es_model.specs.Act.{Act, Give, Throw, Halt, Turn, Ask, Do, Call, Try, Completion, NormalCompletion, ThrowCompletion, Ran, Ends, Halts, Calls, with_world, spent, happened, returned, ended, run}
 use Rattle.es_model.specs.Laws.{IsHidden, EndAlike, CallAlike}
 
@@ -39,7 +39,7 @@ module _ (R : State → State → Type 0) (hidden : IsHidden R) where
       subst (λ w. EndAlike R (run c (k (reply q s.world)) s) (run d (k (reply q w)) t)) (sym (hidden.worlds s t r)) (runs_alike c d same (k (reply q s.world)) s t r)
   runs_alike c d same (Do x k) s t r =
       subst (λ w. EndAlike R (run c (Do x k) s) (happened (perform x w) t (λ a. run d (k a)))) (sym (hidden.worlds s t r))
-        (happened_alike (perform x s.world) s t (λ a. run c (k a)) (λ a. run d (k a)) r (λ a. runs_alike c d same (k a)))
+      (happened_alike (perform x s.world) s t (λ a. run c (k a)) (λ a. run d (k a)) r (λ a. runs_alike c d same (k a)))
   runs_alike c d same (Call f this vs n k) s t r =
       returned_alike (c f this vs n s) (d f this vs n t) (λ v. run c (k v)) (λ v. run d (k v)) (same f this vs n s t r) (λ v. runs_alike c d same (k v))
   runs_alike c d same (Try f this vs n k) s t r =

@@ -1,10 +1,9 @@
 -- Prototype chains end, and stay so.
-use Rattle.std.proofs.Common.{◌≡◌, ◌≢◌, ℕ, zero, suc, ◌+◌, ◌<◌, ◌≤◌, Bool, true, false, cond, not, ◌&&◌, ◌||◌, List, [], ◌∷◌, ◌++◌, length, set, ◌==◌, arith, refl, sym, ap, ◌∙◌, subst, Option, Some, None, IfSome, slice_get, eq-eqb, eqb→eq, inl, inr, ◌⊎◌}
+use Rattle.std.proofs.Common.{◌≡◌, ◌≢◌, ℕ, zero, suc, ◌<◌, Bool, true, false, ◌||◌, [], ◌∷◌, ◌++◌, length, set, ◌==◌, arith, refl, sym, ap, ◌∙◌, subst, Option, Some, None, slice_get, eq-eqb, inl, inr, ◌⊎◌}
 use Rattle.std.proofs.lemmas.Bool.{cases_eq}
-use Rattle.js_value.specs.Value.{Key}
-use Rattle.js_value.specs.Store.{Store, Thing, AnObject, ACell, AMark, ObjectRecord, CellRecord, object_in, cell_in, as_object, as_cell, no_object, no_cell}
+use Rattle.js_value.specs.Store.{Store, Thing, object_in, as_object}
 use Rattle.js_value.specs.WellFormed.{ChainEnds, Ended, Next, IfNumberBelow}
-use Rattle.es_model.specs.InternalMethods.{on_chain, longest, same_prototype, set_prototype_of, refused, unchanged, wrote}
+use Rattle.es_model.specs.InternalMethods.{on_chain, longest}
 
 -- ---- what stands at a place
 
@@ -119,10 +118,10 @@ pub prototype_chain : (s : Store) (n : ℕ) (t : Thing) → on_chain longest s n
 unfolding object_in
 prototype_chain s n t e p Ended = Ended
 prototype_chain s n t e p (Next k c) = Next k (elim (cases_eq n k) [
-    | inl q ↦ subst (λ j. ChainEnds (set s n t) (as_object (slice_get (set s n t) j)).prototype) q
-        (set_here (λ x. ChainEnds (set s n t) (as_object x).prototype) s n t (turned_chain longest s n t (as_object (Some t)).prototype e) Ended)
-    | inr d ↦ subst (λ x. ChainEnds (set s n t) (as_object x).prototype) (sym (get-set_other s n k t d)) (prototype_chain s n t e (object_in s k).prototype c)
-  ])
+  | inl q ↦ subst (λ j. ChainEnds (set s n t) (as_object (slice_get (set s n t) j)).prototype) q
+      (set_here (λ x. ChainEnds (set s n t) (as_object x).prototype) s n t (turned_chain longest s n t (as_object (Some t)).prototype e) Ended)
+  | inr d ↦ subst (λ x. ChainEnds (set s n t) (as_object x).prototype) (sym (get-set_other s n k t d)) (prototype_chain s n t e (object_in s k).prototype c)
+])
 
 -- a thing without a prototype ends each chain that comes to it
 pub cut_chain : (s : Store) (n : ℕ) (t : Thing) → (as_object (Some t)).prototype ≡ None → (p : Option ℕ) → ChainEnds s p → ChainEnds (set s n t) p

@@ -1,12 +1,12 @@
 -- A method on an object that speaks only of things below m leaves one that does.
-use Rattle.std.proofs.Common.{◌≡◌, ℕ, zero, suc, ◌<◌, ◌≤◌, Bool, true, false, cond, not, ◌&&◌, ◌||◌, List, [], ◌∷◌, ◌++◌, nat_lt, nat_le, nat_eq, ◌==◌, ℤ, pos, negsuc, refl, Option, Some, None, IfSome, option_map, unwrap_or}
+use Rattle.std.proofs.Common.{ℕ, suc, Bool, true, false, cond, not, ◌&&◌, ◌||◌, List, [], ◌∷◌, nat_lt, nat_le, nat_eq, ◌==◌, pos, negsuc, Option, Some, None, IfSome, option_map, unwrap_or}
 use Rattle.std.specs.Option.{option_map_or}
 use Rattle.js_value.specs.Number.{text_of_number}
-use Rattle.js_value.specs.Value.{Value, Undefined, Null, Boolean, Number, String, Object, Text, same_text, Key, Index, Named, Numeral, is_index, text_of_key}
-use Rattle.js_value.specs.Store.{Store, Property, Content, Data, Accessor, Class, Ordinary, Array, ScriptFunction, BuiltInFunction, ResolveFunction, RejectFunction, Error, Promise, ObjectRecord, own_property, with_property, without_property, with_string, with_length, is_length_of, put_name, length_name, length_entry, strings}
-use Rattle.js_value.specs.WellFormed.{IsValueBelow, IfValueBelow, IfNumberBelow, IsContentBelow, ArePropertiesBelow, IsClassBelow, IsObjectBelow}
+use Rattle.js_value.specs.Value.{Value, Undefined, Null, Boolean, Number, String, Object, Text, same_text, Key, Index, Named, Numeral, is_index}
+use Rattle.js_value.specs.Store.{Store, Property, Content, Data, Accessor, Class, Array, ObjectRecord, own_property, with_property, without_property, with_string, with_length, is_length_of, put_name, length_name, length_entry, strings}
+use Rattle.js_value.specs.WellFormed.{IsValueBelow, IfValueBelow, IsContentBelow, ArePropertiesBelow, IsClassBelow, IsObjectBelow}
 use Rattle.js_value.proofs.Below.{put_index_properties, put_name_properties, removed_properties, found_properties, append_properties}
-use Rattle.es_model.specs.InternalMethods.{PropertyDescriptor, Outcome, refused, unchanged, wrote, validate_and_apply_property_descriptor, ordinary_define_own_property, new_property, new_content, applied, applied_content, forbidden, has_fields, is_accessor_descriptor, is_data_descriptor, length_of_value, lowest_length, elements_below, lowered, set_length_to, length_set_by, array_set_length, raised, array_define_index, array_define_own_property, define_by_class, define_own_property, ordinary_delete, delete_own_property, prevent_extensions, fixed_content, fixed_property, all_fixed, fixed_class, freeze, set_prototype_of, same_prototype, on_chain, longest, Method, DefineOwnProperty, Delete, PreventExtensions, SetPrototypeOf, Freeze, apply_method}
+use Rattle.es_model.specs.InternalMethods.{PropertyDescriptor, Outcome, refused, unchanged, wrote, validate_and_apply_property_descriptor, ordinary_define_own_property, new_property, new_content, applied, applied_content, forbidden, has_fields, is_accessor_descriptor, is_data_descriptor, length_of_value, lowest_length, elements_below, lowered, set_length_to, length_set_by, array_set_length, raised, array_define_own_property, define_by_class, define_own_property, ordinary_delete, delete_own_property, prevent_extensions, fixed_content, all_fixed, fixed_class, freeze, set_prototype_of, same_prototype, on_chain, longest, Method, DefineOwnProperty, Delete, PreventExtensions, SetPrototypeOf, Freeze, apply_method}
 use Rattle.es_model.specs.Laws.{IsDescriptorBelow, IsMethodBelow}
 
 module _ (m : ℕ) where
@@ -73,7 +73,7 @@ module _ (m : ℕ) where
   validated_below o key d None h b c = cond_leaves o.extensible (wrote (with_property o key (new_property d))) refused (with_property_below o key (new_property d) (new_content_below d b) h) tt
   validated_below o key d (Some current) h b c =
       cond_leaves (has_fields d) (cond (not current.configurable && forbidden current d) refused (wrote (with_property o key (applied current d)))) unchanged
-        (cond_leaves (not current.configurable && forbidden current d) refused (wrote (with_property o key (applied current d))) tt (with_property_below o key (applied current d) (applied_below current.content d c b) h)) tt
+      (cond_leaves (not current.configurable && forbidden current d) refused (wrote (with_property o key (applied current d))) tt (with_property_below o key (applied current d) (applied_below current.content d c b) h)) tt
 
   ordinary_below : (o : ObjectRecord) (key : Key) (d : PropertyDescriptor) → IsObjectBelow m o → IsDescriptorBelow m d → Leaves (ordinary_define_own_property o key d)
   ordinary_below o key d h b = validated_below o key d (own_property o key) h b (own_property_below o key h)
@@ -98,7 +98,7 @@ module _ (m : ℕ) where
   set_length_below : (o : ObjectRecord) (old : ℕ) (w : Bool) (d : PropertyDescriptor) (new : ℕ) → IsObjectBelow m o → IsDescriptorBelow m d → Leaves (set_length_to o old w d new)
   set_length_below o old w d new h b =
       cond_leaves (nat_le old new) (ordinary_define_own_property o (Named length_name) d) _ (ordinary_below o (Named length_name) d h b)
-        (cond_leaves (w && (ordinary_define_own_property o (Named length_name) d).answer) (lowered o old new (lowest_length new o.indexed) (unwrap_or d.writable true)) refused (lowered_below o old new (lowest_length new o.indexed) (unwrap_or d.writable true) h) tt)
+      (cond_leaves (w && (ordinary_define_own_property o (Named length_name) d).answer) (lowered o old new (lowest_length new o.indexed) (unwrap_or d.writable true)) refused (lowered_below o old new (lowest_length new o.indexed) (unwrap_or d.writable true) h) tt)
 
   length_set_below : (o : ObjectRecord) (old : ℕ) (w : Bool) (d : PropertyDescriptor) (v : Option Value) → IsObjectBelow m o → IsDescriptorBelow m d → Leaves (length_set_by o old w d v)
   length_set_below o old w d None h b = ordinary_below o (Named length_name) d h b
@@ -123,7 +123,7 @@ module _ (m : ℕ) where
   array_below : (o : ObjectRecord) (n : ℕ) (w : Bool) (key : Key) (d : PropertyDescriptor) → IsObjectBelow m o → IsDescriptorBelow m d → Leaves (array_define_own_property o n w key d)
   array_below o n w (Index i) d h b =
       cond_leaves (nat_le n i && not w) refused _ tt
-        (mapped_below (raised i o.class) (ordinary_define_own_property o (Index i) d).written (raised_below i o.class) (ordinary_below o (Index i) d h b))
+      (mapped_below (raised i o.class) (ordinary_define_own_property o (Index i) d).written (raised_below i o.class) (ordinary_below o (Index i) d h b))
   array_below o n w (Named t) d h b = cond_leaves (same_text t length_name) (array_set_length o n w d) (ordinary_define_own_property o (Named t) d) (length_set_below o n w d d.value h b) (ordinary_below o (Named t) d h b)
   array_below o n w (Numeral z) d h b = cond_leaves (same_text (text_of_number z) length_name) (array_set_length o n w d) (ordinary_define_own_property o (Numeral z) d) (length_set_below o n w d d.value h b) (ordinary_below o (Numeral z) d h b)
 
@@ -162,5 +162,5 @@ module _ (m : ℕ) where
   method_below PreventExtensions s n o b h = record { class = h.class; prototype = h.prototype; indexed = h.indexed; named = h.named }
   method_below (SetPrototypeOf v) s n o b h =
       cond_leaves (same_prototype v o.prototype) unchanged _ tt
-        (cond_leaves (not o.extensible || on_chain longest s n v) refused (wrote (record o { prototype = v })) tt (record { class = h.class; prototype = b; indexed = h.indexed; named = h.named }))
+      (cond_leaves (not o.extensible || on_chain longest s n v) refused (wrote (record o { prototype = v })) tt (record { class = h.class; prototype = b; indexed = h.indexed; named = h.named }))
   method_below Freeze s n o b h = record { class = fixed_class_below o.class h.class; prototype = h.prototype; indexed = fixed_properties o.indexed h.indexed; named = fixed_properties o.named h.named }

@@ -1,9 +1,9 @@
 -- A composed act runs as its parts do, one after the other.
-use Rattle.std.proofs.Common.{◌≡◌, ℕ, zero, suc, ◌≤◌, List, refl, sym, ap, ◌∙◌, Option, Some, None}
+use Rattle.std.proofs.Common.{◌≡◌, ℕ, zero, suc, refl}
 use Rattle.js_value.specs.Value.{Value}
-use Rattle.es_model.specs.State.{World, State}
-use Rattle.es_model.specs.Ledger.{Event, Happens, Stops, Stop, Budget}
-use Rattle.es_model.specs.Events.{Question, Reply, reply, Deed, Answer, perform}
+use Rattle.es_model.specs.State.{State}
+use Rattle.es_model.specs.Ledger.{Event, Happens, Stops}
+use Rattle.es_model.specs.Events.{reply, perform}
 use Rattle.es_model.specs.Act.{Act, Give, Throw, Halt, Turn, Ask, Do, Call, Try, ◌>>=◌, completed, by_completion, Completion, NormalCompletion, ThrowCompletion, Ran, Ends, Halts, Calls, with_world, spent, happened, returned, ended, run}
 
 module _ (calls : Calls) where

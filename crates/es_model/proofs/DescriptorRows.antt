@@ -1,8 +1,8 @@
 -- A define that changes one field alone, and freezing.
-use Rattle.std.proofs.Common.{◌≡◌, ℕ, Bool, true, false, List, [], ◌∷◌, map, refl, Option, Some, None, pos, codes}
-use Rattle.js_value.specs.Value.{Value, Undefined, Number, Object, Named}
-use Rattle.js_value.specs.Store.{ObjectRecord, Property, Data, Accessor, is_frozen, is_fixed}
-use Rattle.es_model.specs.InternalMethods.{PropertyDescriptor, no_fields, value_descriptor, Outcome, refused, unchanged, wrote, define_own_property, freeze, prevent_extensions}
+use Rattle.std.proofs.Common.{◌≡◌, Bool, true, false, [], ◌∷◌, map, refl, Some, None, pos, codes}
+use Rattle.js_value.specs.Value.{Value, Undefined, Number, Named}
+use Rattle.js_value.specs.Store.{ObjectRecord, Property, Data, Accessor, is_frozen}
+use Rattle.es_model.specs.InternalMethods.{PropertyDescriptor, no_fields, value_descriptor, Outcome, refused, unchanged, wrote, define_own_property, freeze}
 use Rattle.es_model.proofs.Samples.{ordinary, array_of, plain, computing}
 
 one : Value
@@ -49,20 +49,20 @@ accessor_of get set enumerable configurable = record { content = Accessor get se
 -- a configurable property takes each field
 open_data : map (defined (data_of one true true true)) (with_value two ∷ with_writable false ∷ with_get one ∷ with_set two ∷ with_enumerable false ∷ with_configurable false ∷ no_fields ∷ [])
     ≡ leaves (data_of two true true true) ∷ leaves (data_of one false true true) ∷ leaves (accessor_of one Undefined true true) ∷ leaves (accessor_of Undefined two true true)
-      ∷ leaves (data_of one true false true) ∷ leaves (data_of one true true false) ∷ unchanged ∷ []
+    ∷ leaves (data_of one true false true) ∷ leaves (data_of one true true false) ∷ unchanged ∷ []
 unfolding computing one two with_value with_writable with_get with_set with_enumerable with_configurable holder defined leaves data_of accessor_of
 open_data = refl
 
 open_accessor : map (defined (accessor_of one two true true)) (with_value two ∷ with_writable true ∷ with_get two ∷ with_set one ∷ with_enumerable false ∷ with_configurable false ∷ [])
     ≡ leaves (data_of two false true true) ∷ leaves (data_of Undefined true true true) ∷ leaves (accessor_of two two true true) ∷ leaves (accessor_of one one true true)
-      ∷ leaves (accessor_of one two false true) ∷ leaves (accessor_of one two true false) ∷ []
+    ∷ leaves (accessor_of one two false true) ∷ leaves (accessor_of one two true false) ∷ []
 unfolding computing one two with_value with_writable with_get with_set with_enumerable with_configurable holder defined leaves data_of accessor_of
 open_accessor = refl
 
 -- one that is writable and not configurable takes a value, and gives up being writable
 writable_data : map (defined (data_of one true true false)) (with_value two ∷ with_writable true ∷ with_writable false ∷ with_get one ∷ with_set one ∷ with_enumerable true ∷ with_enumerable false ∷ with_configurable false ∷ with_configurable true ∷ [])
     ≡ leaves (data_of two true true false) ∷ leaves (data_of one true true false) ∷ leaves (data_of one false true false) ∷ refused ∷ refused
-      ∷ leaves (data_of one true true false) ∷ refused ∷ leaves (data_of one true true false) ∷ refused ∷ []
+    ∷ leaves (data_of one true true false) ∷ refused ∷ leaves (data_of one true true false) ∷ refused ∷ []
 unfolding computing one two with_value with_writable with_get with_set with_enumerable with_configurable holder defined leaves data_of accessor_of
 writable_data = refl
 

@@ -1,11 +1,11 @@
 -- No event makes a count fall, takes a name or a thing away, or changes a limit.
-use Rattle.std.proofs.Common.{◌≡◌, ℕ, zero, suc, ◌+◌, ◌≤◌, Bool, true, false, cond, List, [], ◌∷◌, ◌++◌, length, set, arith, refl, sym, ap, ◌∙◌, subst, append_assoc, append-nil, Option, Some, None, slice_get, length-append, length-set, le_refl}
+use Rattle.std.proofs.Common.{◌≡◌, ℕ, zero, suc, ◌≤◌, Bool, true, false, cond, List, [], ◌∷◌, ◌++◌, length, arith, refl, sym, ap, ◌∙◌, append_assoc, append-nil, Option, Some, None, slice_get, length-append, length-set, le_refl}
 use Rattle.js_value.specs.Value.{Value, Text}
 use Rattle.js_value.specs.Store.{Store, Thing, AnObject, ACell, AMark, ObjectRecord, Class, Promise, PromiseState, Pending, Fulfilled, Rejected, Ordinary, Array, ScriptFunction, BuiltInFunction, ResolveFunction, RejectFunction, Error, Reaction, frozen, size, object_in, cell_in, mark_in}
-use Rattle.es_model.specs.State.{World, State, Ledger, Counts, plus, nothing, some_slots, some_units, Job}
+use Rattle.es_model.specs.State.{World, State, Counts, plus, nothing, some_slots, some_units, Job}
 use Rattle.es_model.specs.Ledger.{Event, Happens, Stops, Full, charged, charged_unless, passed, written, with_thing, first_cost, with_name, name_added, name_cost, growth}
 use Rattle.es_model.specs.InternalMethods.{Method, apply_method}
-use Rattle.es_model.specs.Events.{Question, Reply, reply, Deed, Answer, perform, Make, Apply, Attach, SetCell, SetMark, Settle, AddReaction, Enqueue, Dequeue, AddRejection, RemoveRejection, MakeText, Write, Take, apply_outcome, settle_class, react_class, dequeue, attached, with_prototype}
+use Rattle.es_model.specs.Events.{reply, Deed, perform, Make, Apply, Attach, SetCell, SetMark, Settle, AddReaction, Enqueue, Dequeue, AddRejection, RemoveRejection, MakeText, Write, Take, apply_outcome, settle_class, react_class, dequeue, attached}
 use Rattle.es_model.specs.Act.{Act, Give, Throw, Halt, Turn, Ask, Do, Call, Try, Completion, NormalCompletion, ThrowCompletion, Ran, Ends, Halts, Calls, with_world, spent, happened, returned, ended, run}
 use Rattle.es_model.specs.Laws.{Grows, IfHappens, state_of}
 
@@ -126,7 +126,7 @@ pub perform_grows : (d : Deed) (w : World) → IfHappens (perform d w) (λ a v. 
 unfolding perform
 perform_grows (Make t) w =
     charged_grows w (record w { store = w.store ++ t ∷ [] }) (some_slots (size t)) (length w.store)
-      (grows_same w (record w { store = w.store ++ t ∷ [] }) (let e = length-append w.store (t ∷ []) in omega (arith, e)) refl refl refl refl)
+    (grows_same w (record w { store = w.store ++ t ∷ [] }) (let e = length-append w.store (t ∷ []) in omega (arith, e)) refl refl refl refl)
 perform_grows (Apply n m) w =
     let before : ObjectRecord = object_in w.store n in
     apply_grows w n m before (apply_method m w.store n before).answer (apply_method m w.store n before).written

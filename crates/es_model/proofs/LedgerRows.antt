@@ -1,8 +1,8 @@
 -- What programs cost: first writes of preloaded things, frozen things, texts.
-use Rattle.std.proofs.Common.{◌≡◌, ℕ, Bool, true, false, List, [], ◌∷◌, ◌++◌, map, refl, Option, Some, None, ℤ, pos, codes}
-use Rattle.js_value.specs.Value.{Value, Undefined, Null, Number, String, Object, Key, Index, Named, Numeral}
-use Rattle.js_value.specs.Store.{Thing, AnObject, ACell, Class, Array, Property, Data, ObjectRecord, size, frozen}
-use Rattle.es_model.specs.State.{Counts, State, nothing, some_slots, some_units, costs_at_start, counts_at_resume, FulfilJob}
+use Rattle.std.proofs.Common.{◌≡◌, ℕ, true, false, List, [], ◌∷◌, ◌++◌, refl, Some, None, pos, codes}
+use Rattle.js_value.specs.Value.{Value, Undefined, Null, Number, String, Object, Index, Named, Numeral}
+use Rattle.js_value.specs.Store.{Thing, AnObject, ACell, Property, Data, ObjectRecord}
+use Rattle.es_model.specs.State.{Counts, nothing, some_slots, costs_at_start, counts_at_resume, FulfilJob}
 use Rattle.es_model.specs.Ledger.{OutOf, Slots, Units}
 use Rattle.es_model.specs.InternalMethods.{Freeze, PreventExtensions, SetPrototypeOf}
 use Rattle.es_model.specs.Events.{SetCell, Apply}
@@ -10,7 +10,7 @@ use Rattle.es_model.specs.Act.{Act, Give, Do, run, Ran}
 use Rattle.es_model.specs.Errors.{make_text}
 use Rattle.es_model.specs.PropertyWrites.{put_value, set_or_throw}
 use Rattle.es_model.specs.Conversions.{to_number}
-use Rattle.es_model.proofs.Samples.{plain, ordinary, array_of, realm_of, ample, world_with, state_in, calls, came, Came, Gave, Threw, Stopped, used_after, computing}
+use Rattle.es_model.proofs.Samples.{plain, ordinary, array_of, realm_of, ample, world_with, state_in, calls, came, Gave, Threw, Stopped, used_after, computing}
 
 -- a run over preloaded things whose first writes count, with so many slots
 over : List Thing → (slots : ℕ) → Act → Ran

@@ -1,14 +1,14 @@
 -- Own keys are distinct and in order, and every method keeps them so.
-use Rattle.std.proofs.Common.{◌≡◌, ◌≢◌, ℕ, zero, suc, ◌+◌, ◌<◌, ◌≤◌, Bool, true, false, cond, not, ◌&&◌, ◌||◌, nat_eq, List, [], ◌∷◌, ◌++◌, length, nat_lt, nat_le, ◌==◌, ℤ, pos, negsuc, arith, refl, sym, ap, ◌∙◌, subst, Option, Some, None, IfSome, option_map, unwrap_or, is_some}
+use Rattle.std.proofs.Common.{◌≡◌, ℕ, suc, ◌<◌, ◌≤◌, Bool, true, false, cond, not, ◌&&◌, ◌||◌, nat_eq, List, [], ◌∷◌, ◌++◌, nat_lt, nat_le, ◌==◌, ℤ, pos, negsuc, arith, refl, sym, ap, ◌∙◌, subst, Option, Some, None, IfSome, option_map, unwrap_or}
 use Rattle.std.specs.Option.{option_map_or}
 use Rattle.std.proofs.lemmas.Bool.Decides.{nat_tests}
 use Rattle.js_value.specs.Number.{index_of_text, text_of_number}
-use Rattle.js_value.specs.Value.{Value, Undefined, Null, Boolean, Number, String, Object, Text, same_text, Key, Index, Named, Numeral, is_index, text_of_key}
-use Rattle.js_value.specs.Store.{Store, Thing, AnObject, Property, Content, Data, Accessor, Class, Ordinary, Array, ScriptFunction, BuiltInFunction, ResolveFunction, RejectFunction, Error, Promise, ObjectRecord, own_property, with_property, without_property, with_string, with_length, is_length_of, put_name, put_index, removed, found, length_name, length_property, length_entry, strings}
-use Rattle.js_value.specs.Order.{IsKey, AllAbove, AllBelow, Ascending, Distinct, NoIndexText, FitsLength, NoLength, IsOrderly}
+use Rattle.js_value.specs.Value.{Value, Undefined, Null, Boolean, Number, String, Object, Text, same_text, Key, Index, Named, Numeral, is_index}
+use Rattle.js_value.specs.Store.{Store, Property, Data, Class, Array, ObjectRecord, own_property, with_property, without_property, with_string, with_length, is_length_of, put_name, put_index, removed, found, length_name, length_property, length_entry, strings}
+use Rattle.js_value.specs.Order.{IsKey, AllAbove, AllBelow, Ascending, Distinct, NoIndexText, NoLength, IsOrderly}
 use Rattle.js_value.proofs.Entries.{put_name_distinct, put_name_no_index, found-put_name, removed_none, removed_distinct, removed_no_index, all_below_more, put_index_below, put_index_ascending, removed_below, removed_ascending, same_text_sym}
 use Rattle.es_model.specs.Equality.{same_bool}
-use Rattle.es_model.specs.InternalMethods.{PropertyDescriptor, Outcome, refused, unchanged, wrote, validate_and_apply_property_descriptor, ordinary_define_own_property, new_property, new_content, applied, differs, forbidden_content, forbidden, has_fields, is_accessor_descriptor, is_data_descriptor, length_of_value, lowest_length, elements_below, lowered, set_length_to, length_set_by, array_set_length, raised, array_define_index, array_define_own_property, define_by_class, define_own_property, ordinary_delete, delete_own_property, prevent_extensions, fixed_property, all_fixed, fixed_class, freeze, set_prototype_of, same_prototype, on_chain, longest, Method, DefineOwnProperty, Delete, PreventExtensions, SetPrototypeOf, Freeze, apply_method}
+use Rattle.es_model.specs.InternalMethods.{PropertyDescriptor, Outcome, refused, unchanged, wrote, validate_and_apply_property_descriptor, ordinary_define_own_property, new_property, new_content, applied, differs, forbidden_content, forbidden, has_fields, is_accessor_descriptor, is_data_descriptor, lowest_length, elements_below, lowered, set_length_to, length_set_by, array_set_length, raised, array_define_own_property, define_by_class, define_own_property, ordinary_delete, delete_own_property, prevent_extensions, fixed_property, all_fixed, fixed_class, freeze, set_prototype_of, same_prototype, on_chain, longest, Method, DefineOwnProperty, Delete, PreventExtensions, SetPrototypeOf, Freeze, apply_method}
 
 abbrev Written : (ObjectRecord → Type 0) → Outcome → Type 0
 Written P out = IfSome out.written P
@@ -23,7 +23,7 @@ unfolding validate_and_apply_property_descriptor
 validated P o key d None h = cond_written P o.extensible (wrote (with_property o key (new_property d))) refused (h (new_property d)) tt
 validated P o key d (Some current) h =
     cond_written P (has_fields d) (cond (not current.configurable && forbidden current d) refused (wrote (with_property o key (applied current d)))) unchanged
-      (cond_written P (not current.configurable && forbidden current d) refused (wrote (with_property o key (applied current d))) tt (h (applied current d))) tt
+    (cond_written P (not current.configurable && forbidden current d) refused (wrote (with_property o key (applied current d))) tt (h (applied current d))) tt
 
 -- ---- by class: an object of these parts
 
@@ -123,7 +123,7 @@ module _ (prototype : Option ℕ) (extensible : Bool) (is : List (ℕ × Propert
   length_written n w d None l h = length_orderly n n w (unwrap_or d.writable w) h.length.0 h.length.1 h
   length_written n w d (Some v) l h =
       subst (λ v. IsOrderly (with_length (this (Array n w)) (Data v (unwrap_or d.writable w)))) (sym l.1)
-        (length_orderly n l.0 w (unwrap_or d.writable w) l.3 (all_below_more n l.0 is l.2 h.length.1) h)
+      (length_orderly n l.0 w (unwrap_or d.writable w) l.3 (all_below_more n l.0 is l.2 h.length.1) h)
 
   length_defined : (n : ℕ) (w : Bool) (d : PropertyDescriptor) → NoLower n d.value → IsOrderly (this (Array n w)) → Written IsOrderly (ordinary_define_own_property (this (Array n w)) (Named length_name) d)
   unfolding validate_and_apply_property_descriptor own_property with_property
@@ -228,7 +228,7 @@ module _ (prototype : Option ℕ) (extensible : Bool) (is : List (ℕ × Propert
   index_orderly : (c : Class) (i : ℕ) (d : PropertyDescriptor) → i < 4294967295 → IsOrderly (this c) → IfSome (option_map (raised i c) (ordinary_define_own_property (this c) (Index i) d).written) IsOrderly
   index_orderly c i d l h =
       mapped (raised i c) (ordinary_define_own_property (this c) (Index i) d).written
-        (validated (λ o. IsOrderly (raised i c o)) (this c) (Index i) d (own_property (this c) (Index i)) (λ p. raised_orderly c i p l h))
+      (validated (λ o. IsOrderly (raised i c o)) (this c) (Index i) d (own_property (this c) (Index i)) (λ p. raised_orderly c i p l h))
 
   name_defined : (c : Class) (t : Text) (d : PropertyDescriptor) → index_of_text t ≡ None → is_length_of c t ≡ false → IsOrderly (this c) → Written IsOrderly (ordinary_define_own_property (this c) (Named t) d)
   unfolding with_property
@@ -371,7 +371,7 @@ define_orderly : (o : ObjectRecord) (key : Key) (d : PropertyDescriptor) → IsK
 unfolding define_own_property
 define_orderly o key d k h =
     cond_written IsOrderly (is_index key && is_accessor_descriptor d) refused (define_by_class o.class o key d) tt
-      (class_orderly o.prototype o.extensible o.indexed o.named o.class key d k h)
+    (class_orderly o.prototype o.extensible o.indexed o.named o.class key d k h)
 
 delete_orderly : (o : ObjectRecord) (key : Key) (p : Option Property) → IsOrderly o → Written IsOrderly (ordinary_delete o key p)
 delete_orderly o key None h = tt
@@ -382,7 +382,7 @@ prototype_orderly : (s : Store) (n : ℕ) (v : Option ℕ) (o : ObjectRecord) �
 unfolding set_prototype_of
 prototype_orderly s n v o h =
     cond_written IsOrderly (same_prototype v o.prototype) unchanged (cond (not o.extensible || on_chain longest s n v) refused (wrote (record o { prototype = v }))) tt
-      (cond_written IsOrderly (not o.extensible || on_chain longest s n v) refused (wrote (record o { prototype = v })) tt (parts_orderly o v o.extensible h))
+    (cond_written IsOrderly (not o.extensible || on_chain longest s n v) refused (wrote (record o { prototype = v })) tt (parts_orderly o v o.extensible h))
 
 -- the key of a define is a key
 abbrev pub HasKey : Method → Type 0

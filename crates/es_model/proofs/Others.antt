@@ -1,11 +1,11 @@
 -- A deed leaves all other things as they were.
-use Rattle.std.proofs.Common.{◌≡◌, ◌≢◌, ℕ, zero, suc, ◌+◌, ◌<◌, ◌≤◌, Bool, true, false, cond, List, [], ◌∷◌, ◌++◌, length, set, arith, refl, sym, ap, ◌∙◌, subst, Option, Some, None, slice_get, ◌==◌, eq-eqb}
-use Rattle.js_value.specs.Value.{Value, Text}
+use Rattle.std.proofs.Common.{◌≡◌, ◌≢◌, ℕ, zero, suc, ◌<◌, Bool, true, false, cond, List, [], ◌∷◌, ◌++◌, length, set, arith, refl, ap, ◌∙◌, Option, Some, None, slice_get, ◌==◌, eq-eqb}
+use Rattle.js_value.specs.Value.{Text}
 use Rattle.js_value.specs.Store.{Store, Thing, AnObject, ACell, AMark, ObjectRecord, Class, Promise, PromiseState, Pending, Fulfilled, Rejected, Ordinary, Array, ScriptFunction, BuiltInFunction, ResolveFunction, RejectFunction, Error, Reaction, frozen, size, object_in, cell_in, mark_in}
-use Rattle.es_model.specs.State.{World, State, Ledger, Counts, plus, nothing, some_slots, some_units, Job}
-use Rattle.es_model.specs.Ledger.{Event, Happens, Stops, Full, charged, charged_unless, passed, written, with_thing, first_cost, with_name, name_added, name_cost, growth}
+use Rattle.es_model.specs.State.{World, Counts, plus, nothing, some_slots, some_units, Job}
+use Rattle.es_model.specs.Ledger.{Event, Happens, Full, charged, charged_unless, passed, written, with_thing, first_cost, with_name, name_added, name_cost, growth}
 use Rattle.es_model.specs.InternalMethods.{Method, apply_method}
-use Rattle.es_model.specs.Events.{Deed, Answer, perform, Make, Apply, Attach, SetCell, SetMark, Settle, AddReaction, Enqueue, Dequeue, AddRejection, RemoveRejection, MakeText, Write, Take, apply_outcome, settle_class, react_class, dequeue, attached, with_prototype}
+use Rattle.es_model.specs.Events.{Deed, perform, Make, Apply, Attach, SetCell, SetMark, Settle, AddReaction, Enqueue, Dequeue, AddRejection, RemoveRejection, MakeText, Write, Take, apply_outcome, settle_class, react_class, dequeue, attached}
 use Rattle.es_model.specs.Laws.{IfHappens, changes}
 
 pub get-set_other : {X : Type 0} (xs : List X) (i j : ℕ) (x : X) → i ≢ j → slice_get (set xs i x) j ≡ slice_get xs j

@@ -1,13 +1,13 @@
 -- Promises: resolving with a thenable, with itself, twice; reactions; rejections.
-use Rattle.std.proofs.Common.{◌≡◌, ℕ, Bool, true, false, List, [], ◌∷◌, refl, Option, Some, None, ℤ, pos, codes}
-use Rattle.js_value.specs.Value.{Value, Undefined, Null, Number, String, Object}
-use Rattle.js_value.specs.Store.{Thing, AnObject, AMark, ObjectRecord, Class, Promise, PromiseState, Pending, Fulfilled, Rejected, Reaction}
-use Rattle.es_model.specs.State.{State, World, Counts, nothing, some_slots, Job, FulfilJob, RejectJob, ThenableJob}
+use Rattle.std.proofs.Common.{◌≡◌, ℕ, true, false, List, [], ◌∷◌, refl, Some, None, pos, codes}
+use Rattle.js_value.specs.Value.{Undefined, Null, Number, Object}
+use Rattle.js_value.specs.Store.{Thing, AnObject, AMark, Promise, PromiseState, Pending, Fulfilled, Rejected, Reaction}
+use Rattle.es_model.specs.State.{World, some_slots, FulfilJob, RejectJob, ThenableJob}
 use Rattle.es_model.specs.Messages.{ResolvedWithItself, text_of_message}
 use Rattle.es_model.specs.Errors.{error_record}
 use Rattle.es_model.specs.Act.{Act, Give, ◌>>=◌, run, Ran}
-use Rattle.es_model.specs.Jobs.{call_resolve_function, call_reject_function, resolve_promise, fulfil_promise, reject_promise, promise_then, run_first_job, create_resolving_functions, promise_record}
-use Rattle.es_model.proofs.Samples.{plain, ordinary, function, runs, world_after, thing_after, used_after, came, Came, Gave, computing}
+use Rattle.es_model.specs.Jobs.{call_resolve_function, call_reject_function, fulfil_promise, reject_promise, promise_then, run_first_job, create_resolving_functions}
+use Rattle.es_model.proofs.Samples.{plain, ordinary, function, runs, world_after, thing_after, computing}
 
 -- 13 is a pending promise, 14 its mark, 15 an object whose `then` is the function 16, 17 a pending promise with a reaction
 promise : PromiseState → List Reaction → Thing

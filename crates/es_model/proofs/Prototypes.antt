@@ -1,10 +1,10 @@
 -- All methods but [[SetPrototypeOf]] keep an object's prototype.
-use Rattle.std.proofs.Common.{◌≡◌, ℕ, zero, suc, Bool, true, false, cond, not, ◌&&◌, ◌||◌, List, [], ◌∷◌, nat_lt, nat_le, ◌==◌, ℤ, pos, negsuc, refl, sym, ◌∙◌, Option, Some, None, IfSome, option_map, unwrap_or}
+use Rattle.std.proofs.Common.{◌≡◌, ℕ, suc, Bool, true, false, cond, not, ◌&&◌, nat_lt, nat_le, ◌==◌, pos, negsuc, refl, Option, Some, None, IfSome, option_map, unwrap_or}
 use Rattle.std.specs.Option.{option_map_or}
 use Rattle.js_value.specs.Number.{text_of_number}
 use Rattle.js_value.specs.Value.{Value, Undefined, Null, Boolean, Number, String, Object, Text, same_text, Key, Index, Named, Numeral, is_index}
-use Rattle.js_value.specs.Store.{Store, Property, Content, Data, Accessor, Class, Array, ObjectRecord, own_property, with_property, without_property, with_string, with_length, is_length_of, put_name, length_name}
-use Rattle.es_model.specs.InternalMethods.{PropertyDescriptor, Outcome, refused, unchanged, wrote, validate_and_apply_property_descriptor, ordinary_define_own_property, new_property, applied, forbidden, has_fields, is_accessor_descriptor, length_of_value, lowest_length, elements_below, lowered, set_length_to, length_set_by, array_set_length, raised, array_define_own_property, define_by_class, define_own_property, ordinary_delete, delete_own_property, prevent_extensions, freeze, Method, DefineOwnProperty, Delete, PreventExtensions, SetPrototypeOf, Freeze, apply_method}
+use Rattle.js_value.specs.Store.{Property, Content, Data, Accessor, Class, Array, ObjectRecord, own_property, with_property, without_property, with_string, with_length, is_length_of, put_name, length_name}
+use Rattle.es_model.specs.InternalMethods.{PropertyDescriptor, Outcome, refused, unchanged, wrote, validate_and_apply_property_descriptor, ordinary_define_own_property, new_property, applied, forbidden, has_fields, is_accessor_descriptor, length_of_value, lowest_length, elements_below, lowered, set_length_to, length_set_by, array_set_length, raised, array_define_own_property, define_by_class, define_own_property, ordinary_delete, delete_own_property}
 
 module _ (prototype : Option ℕ) where
   abbrev Has : ObjectRecord → Type 0
@@ -45,7 +45,7 @@ module _ (prototype : Option ℕ) where
   validated_keeps o key d None h = cond_leaves o.extensible (wrote (with_property o key (new_property d))) refused (property_keeps o key (new_property d) h) tt
   validated_keeps o key d (Some current) h =
       cond_leaves (has_fields d) (cond (not current.configurable && forbidden current d) refused (wrote (with_property o key (applied current d)))) unchanged
-        (cond_leaves (not current.configurable && forbidden current d) refused (wrote (with_property o key (applied current d))) tt (property_keeps o key (applied current d) h)) tt
+      (cond_leaves (not current.configurable && forbidden current d) refused (wrote (with_property o key (applied current d))) tt (property_keeps o key (applied current d) h)) tt
 
   ordinary_keeps : (o : ObjectRecord) (key : Key) (d : PropertyDescriptor) → Has o → Leaves (ordinary_define_own_property o key d)
   ordinary_keeps o key d h = validated_keeps o key d (own_property o key) h
@@ -60,7 +60,7 @@ module _ (prototype : Option ℕ) where
   set_length_keeps : (o : ObjectRecord) (old : ℕ) (w : Bool) (d : PropertyDescriptor) (new : ℕ) → Has o → Leaves (set_length_to o old w d new)
   set_length_keeps o old w d new h =
       cond_leaves (nat_le old new) (ordinary_define_own_property o (Named length_name) d) _ (ordinary_keeps o (Named length_name) d h)
-        (cond_leaves (w && (ordinary_define_own_property o (Named length_name) d).answer) (lowered o old new (lowest_length new o.indexed) (unwrap_or d.writable true)) refused (lowered_keeps o old new (lowest_length new o.indexed) (unwrap_or d.writable true) h) tt)
+      (cond_leaves (w && (ordinary_define_own_property o (Named length_name) d).answer) (lowered o old new (lowest_length new o.indexed) (unwrap_or d.writable true)) refused (lowered_keeps o old new (lowest_length new o.indexed) (unwrap_or d.writable true) h) tt)
 
   length_set_keeps : (o : ObjectRecord) (old : ℕ) (w : Bool) (d : PropertyDescriptor) (v : Option Value) → Has o → Leaves (length_set_by o old w d v)
   length_set_keeps o old w d None h = ordinary_keeps o (Named length_name) d h
@@ -85,7 +85,7 @@ module _ (prototype : Option ℕ) where
   array_keeps : (o : ObjectRecord) (n : ℕ) (w : Bool) (key : Key) (d : PropertyDescriptor) → Has o → Leaves (array_define_own_property o n w key d)
   array_keeps o n w (Index i) d h =
       cond_leaves (nat_le n i && not w) refused _ tt
-        (mapped_keeps (raised i o.class) (ordinary_define_own_property o (Index i) d).written (raised_keeps i o.class) (ordinary_keeps o (Index i) d h))
+      (mapped_keeps (raised i o.class) (ordinary_define_own_property o (Index i) d).written (raised_keeps i o.class) (ordinary_keeps o (Index i) d h))
   array_keeps o n w (Named t) d h = cond_leaves (same_text t length_name) (array_set_length o n w d) (ordinary_define_own_property o (Named t) d) (length_set_keeps o n w d d.value h) (ordinary_keeps o (Named t) d h)
   array_keeps o n w (Numeral z) d h = cond_leaves (same_text (text_of_number z) length_name) (array_set_length o n w d) (ordinary_define_own_property o (Numeral z) d) (length_set_keeps o n w d d.value h) (ordinary_keeps o (Numeral z) d h)
 

@@ -1,10 +1,10 @@
 -- A small world for the rows, and ways to look at what a run came to.
-use Rattle.std.proofs.Common.{ℕ, Bool, true, false, cond, List, [], ◌∷◌, ◌++◌, Option, Some, None, slice_get, ℤ, pos, codes, length, get_or, ◌==◌, ◌+◌}
-use Rattle.js_value.specs.Value.{Value, Undefined, Number, String, Object, Text, Key, Named}
-use Rattle.js_value.specs.Store.{Thing, AnObject, ACell, AMark, ObjectRecord, Class, Ordinary, Array, BuiltInFunction, Property, Data, Accessor, Store}
+use Rattle.std.proofs.Common.{ℕ, Bool, true, cond, List, [], ◌∷◌, Option, Some, None, slice_get, pos, codes, ◌==◌}
+use Rattle.js_value.specs.Value.{Value, Undefined, Number, String, Object, Text}
+use Rattle.js_value.specs.Store.{Thing, AnObject, ObjectRecord, Class, Ordinary, Array, BuiltInFunction, Property, Data, Accessor, Store}
 use Rattle.es_model.specs.State.{World, State, Counts, nothing}
-use Rattle.es_model.specs.Ledger.{Stop, Event, Happens, Stops}
-use Rattle.es_model.specs.Act.{Act, Ran, Ends, Halts, Calls, Completion, NormalCompletion, ThrowCompletion}
+use Rattle.es_model.specs.Ledger.{Stop}
+use Rattle.es_model.specs.Act.{Act, Ran, Ends, Halts, Calls, NormalCompletion, ThrowCompletion}
 use Rattle.js_value.specs.Store.{object_in, cell_in, mark_in, own_property, with_property, without_property, is_frozen}
 use Rattle.es_model.specs.Act.{run}
 use Rattle.es_model.specs.Conversions.{to_primitive, to_number, to_string, to_property_key, number_expected, text_expected, key_expected, loosely_equal_within, is_loosely_equal}
@@ -70,7 +70,7 @@ state_in w = record { world = w; meter = 100; depth = 0 }
 abbrev pub row_result : ℕ → (receiver : Value) → State → Ran
 row_result row receiver s = cond (row == 1) (Ends (NormalCompletion receiver) s)
     (cond (row == 2) (Ends (ThrowCompletion (Number (pos 9))) s)
-      (cond (row == 3) (Ends (NormalCompletion (Number (pos 7))) s) (Ends (NormalCompletion (String (codes "1"))) s)))
+    (cond (row == 3) (Ends (NormalCompletion (Number (pos 7))) s) (Ends (NormalCompletion (String (codes "1"))) s)))
 
 abbrev pub class_result : Class → (receiver : Value) → State → Ran
 class_result (BuiltInFunction row) receiver s = row_result row receiver s

@@ -1,13 +1,13 @@
 -- What happens at the limits and at the edges of arrays.
-use Rattle.std.proofs.Common.{◌≡◌, ℕ, Bool, true, false, List, [], ◌∷◌, refl, Option, Some, None, ℤ, pos, codes}
-use Rattle.js_value.specs.Value.{Value, Undefined, Number, Boolean, String, Object, Key, Index, Named}
-use Rattle.js_value.specs.Store.{Thing, AnObject, ObjectRecord, Property, Data}
+use Rattle.std.proofs.Common.{◌≡◌, true, false, [], ◌∷◌, refl, Some, None, pos, codes}
+use Rattle.js_value.specs.Value.{Undefined, Number, Object, Index, Named}
+use Rattle.js_value.specs.Store.{ObjectRecord, Property, Data}
 use Rattle.es_model.specs.State.{Counts, some_slots}
 use Rattle.es_model.specs.Ledger.{OutOf, Slots, Units}
-use Rattle.es_model.specs.InternalMethods.{PropertyDescriptor, no_fields, value_descriptor, DefineOwnProperty, Delete, Outcome, refused, unchanged, wrote, define_own_property, delete_own_property}
-use Rattle.es_model.specs.Events.{Make, MakeText, Apply}
+use Rattle.es_model.specs.InternalMethods.{no_fields, value_descriptor, refused, unchanged, wrote, define_own_property, delete_own_property}
+use Rattle.es_model.specs.Events.{Make, MakeText}
 use Rattle.es_model.specs.Act.{Act, Give, Do, run}
-use Rattle.es_model.proofs.Samples.{plain, ordinary, array_of, blank, ample, world_with, state_in, calls, came, Gave, Stopped, used_after, computing}
+use Rattle.es_model.proofs.Samples.{plain, ordinary, array_of, blank, ample, world_with, state_in, calls, came, Stopped, used_after, computing}
 
 -- two objects in a room of one slot
 two_objects : Act

@@ -1,11 +1,11 @@
 -- A run whose first writes are counted and one whose aren't differ in nothing but stops.
-use Rattle.std.proofs.Common.{◌≡◌, ℕ, zero, suc, ◌+◌, Bool, true, false, cond, List, [], ◌∷◌, ◌++◌, length, set, get_or, filter, not, ◌==◌, refl, sym, ap, ◌∙◌, subst, Option, Some, None, slice_get}
+use Rattle.std.proofs.Common.{◌≡◌, ℕ, zero, suc, Bool, true, false, cond, List, [], ◌∷◌, ◌++◌, length, set, refl, sym, ap, ◌∙◌, subst, Option, Some, None}
 use Rattle.js_value.specs.Value.{Value, Key, Index, Named, Numeral}
 use Rattle.js_value.specs.Store.{Thing, AnObject, ACell, AMark, ObjectRecord, Class, Promise, PromiseState, Pending, Fulfilled, Rejected, Ordinary, Array, ScriptFunction, BuiltInFunction, ResolveFunction, RejectFunction, Error, Reaction, frozen, size, object_in, cell_in, mark_in}
 use Rattle.es_model.specs.State.{World, State, Ledger, Counts, plus, nothing, some_slots, some_units, Job}
-use Rattle.es_model.specs.Ledger.{Event, Happens, Stops, Stop, OutOf, Budget, Depth, NoHost, Full, charged, charged_unless, passed, written, with_thing, first_cost, with_name, name_added, name_cost, growth, created, new_name, name_price}
+use Rattle.es_model.specs.Ledger.{Event, Happens, Stops, Stop, OutOf, Budget, Depth, NoHost, Full, charged, charged_unless, passed, written, with_thing, first_cost, with_name, name_added, name_cost, growth, created, new_name}
 use Rattle.es_model.specs.InternalMethods.{Method, DefineOwnProperty, Delete, PreventExtensions, SetPrototypeOf, Freeze, apply_method}
-use Rattle.es_model.specs.Events.{Question, Reply, reply, TheObject, TheCell, TheMark, TheProperty, TheSetStep, TheIntrinsic, TheInput, Deed, Answer, perform, Make, Apply, Attach, SetCell, SetMark, Settle, AddReaction, Enqueue, Dequeue, AddRejection, RemoveRejection, MakeText, Write, Take, apply_outcome, settle_class, react_class, dequeue}
+use Rattle.es_model.specs.Events.{Question, reply, TheObject, TheCell, TheMark, TheProperty, TheSetStep, TheIntrinsic, TheInput, Deed, perform, Make, Apply, Attach, SetCell, SetMark, Settle, AddReaction, Enqueue, Dequeue, AddRejection, RemoveRejection, MakeText, Write, Take, apply_outcome, settle_class, react_class, dequeue}
 use Rattle.es_model.specs.Act.{Act, Give, Throw, Halt, Turn, Ask, Do, Call, Try, Completion, NormalCompletion, ThrowCompletion, Ran, Ends, Halts, Calls, with_world, spent, happened, returned, ended, run}
 use Rattle.es_model.specs.Laws.{IsAlike, IsAlikeState, EndAlikeUnlessFull}
 
@@ -57,8 +57,8 @@ apply_alike w l n m before answer (Some after) =
     let name : Option (List ℕ) = name_added w m before after in
     let price : Counts = plus (growth before after) (name_cost m name) in
     subst (λ t. EventsAlike (apply_outcome w n m before answer (Some after)) (written (with_name t (under w l)) n (AnObject before) (AnObject after) (plus (growth before after) (name_cost m t)) answer)) (sym (added_alike w l m before after))
-      (subst (λ v. EventsAlike (apply_outcome w n m before answer (Some after)) (written v n (AnObject before) (AnObject after) price answer)) (sym (name_alike name w l))
-        (written_alike (with_name name w) l n (AnObject before) (AnObject after) price price answer))
+    (subst (λ v. EventsAlike (apply_outcome w n m before answer (Some after)) (written v n (AnObject before) (AnObject after) price answer)) (sym (name_alike name w l))
+    (written_alike (with_name name w) l n (AnObject before) (AnObject after) price price answer))
 
 settle_alike : (w : World) (l : Ledger) (n : ℕ) (state : PromiseState) (o : ObjectRecord) (c : Class) → EventsAlike (settle_class w n state o c) (settle_class (under w l) n state o c)
 settle_alike w l n state o (Promise Pending reactions) = written_alike w l n (AnObject o) (AnObject (record o { class = Promise state [] })) nothing nothing (Some reactions)
@@ -189,8 +189,8 @@ ledgers_alike c d same (Ask q k) s t r =
     subst (λ a. EndAlikeUnlessFull (run c (k (reply q s.world)) s) (run d (k a) t)) (sym e) (ledgers_alike c d same (k (reply q s.world)) s t r)
 ledgers_alike c d same (Do x k) s t r =
     happened_alike (perform x s.world) (perform x t.world) s t (λ a. run c (k a)) (λ a. run d (k a))
-      (subst (λ w. EventsAlike (perform x s.world) (perform x w)) (sym r.worlds) (perform_alike x s.world t.world.ledger)) r
-      (λ a. ledgers_alike c d same (k a))
+    (subst (λ w. EventsAlike (perform x s.world) (perform x w)) (sym r.worlds) (perform_alike x s.world t.world.ledger)) r
+    (λ a. ledgers_alike c d same (k a))
 ledgers_alike c d same (Call f this vs n k) s t r =
     returned_alike (c f this vs n s) (d f this vs n t) (λ v. run c (k v)) (λ v. run d (k v)) (same f this vs n s t r) (λ v. ledgers_alike c d same (k v))
 ledgers_alike c d same (Try f this vs n k) s t r =

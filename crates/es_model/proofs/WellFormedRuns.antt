@@ -1,14 +1,14 @@
 -- Every act that speaks of things that stand keeps the world well-formed.
-use Rattle.std.proofs.Common.{◌≡◌, ℕ, zero, suc, ◌<◌, ◌≤◌, Bool, true, false, cond, List, [], ◌∷◌, length, arith, refl, Option, Some, None, IfSome, get_or, le_refl}
+use Rattle.std.proofs.Common.{ℕ, zero, suc, ◌<◌, ◌≤◌, Bool, true, false, cond, List, [], ◌∷◌, length, arith, Option, Some, None, IfSome, get_or, le_refl}
 use Rattle.js_value.specs.Value.{Value, Undefined, Null, Boolean, Number, String, Object, Key}
 use Rattle.js_value.specs.Store.{Store, Property, Content, Data, Accessor, object_in, own_property}
-use Rattle.js_value.specs.WellFormed.{IsValueBelow, IfValueBelow, AreNumbersBelow, IsContentBelow, IsWellFormed}
+use Rattle.js_value.specs.WellFormed.{IsValueBelow, AreNumbersBelow, IsContentBelow, IsWellFormed}
 use Rattle.es_model.specs.State.{World, State}
-use Rattle.es_model.specs.Ledger.{Event, Happens, Stops, Budget}
-use Rattle.es_model.specs.InternalMethods.{property_from, find_property, longest, or_later, SetStep, RefusesSet, CallsSetter, DefinesOn, set_own, set_own_content, set_data, set_by_setter, set_content, set_step, value_descriptor, data_descriptor}
-use Rattle.es_model.specs.Events.{Question, Reply, reply, TheObject, TheCell, TheMark, TheProperty, TheSetStep, TheIntrinsic, TheInput, Deed, Answer, perform}
+use Rattle.es_model.specs.Ledger.{Event, Happens, Stops}
+use Rattle.es_model.specs.InternalMethods.{property_from, find_property, longest, or_later, SetStep, RefusesSet, DefinesOn, set_own, set_own_content, set_data, set_by_setter, set_content, set_step, value_descriptor, data_descriptor}
+use Rattle.es_model.specs.Events.{Question, reply, TheObject, TheCell, TheMark, TheProperty, TheSetStep, TheIntrinsic, TheInput, perform}
 use Rattle.es_model.specs.Act.{Act, Give, Throw, Halt, Turn, Ask, Do, Call, Try, Completion, NormalCompletion, ThrowCompletion, Ran, Ends, Halts, Calls, with_world, spent, happened, returned, ended, run}
-use Rattle.es_model.specs.Laws.{IfHappens, Grows, IsReplyBelow, IsQuestionBelow, IsStepBelow, IsDescriptorBelow, IsAnswerBelow, IsDeedBelow, IsActBelow, IsCompletionBelow, IsWorldWellFormed, IsRanWellFormed, CallsWell}
+use Rattle.es_model.specs.Laws.{IfHappens, Grows, IsReplyBelow, IsQuestionBelow, IsStepBelow, IsDescriptorBelow, IsAnswerBelow, IsActBelow, IsCompletionBelow, IsWorldWellFormed, IsRanWellFormed, CallsWell}
 use Rattle.es_model.proofs.Closed.{own_property_below}
 use Rattle.es_model.proofs.Growth.{perform_grows}
 use Rattle.es_model.proofs.WellFormedStores.{perform_well}
@@ -25,7 +25,7 @@ property_below zero s key n h = tt
 property_below (suc fuel) s key None h = tt
 property_below (suc fuel) s key (Some n) h =
     later_below (length s) (own_property (object_in s n) key) (property_from fuel s key (object_in s n).prototype)
-      (own_property_below (length s) (object_in s n) key (h.objects n)) (property_below fuel s key (object_in s n).prototype h)
+    (own_property_below (length s) (object_in s n) key (h.objects n)) (property_below fuel s key (object_in s n).prototype h)
 
 value_descriptor_below : (m : ℕ) (v : Value) → IsValueBelow m v → IsDescriptorBelow m (value_descriptor v)
 value_descriptor_below m v h = record { value = h; get = tt; set = tt }
@@ -118,10 +118,10 @@ run_well c well (Turn p) s h b = spent_well s.meter s (run c p) h (λ n. run_wel
 run_well c well (Ask q k) s h b = run_well c well (k (reply q s.world)) s h (b.1 (reply q s.world) (reply_well q s.world h b.0))
 run_well c well (Do d k) s h b =
     happened_well (perform d s.world) s (λ a. run c (k a)) (λ n a. IsAnswerBelow n d a) h (perform_grows d s.world) (perform_well d s.world h b.0)
-      (λ a v w l y. run_well c well (k a) (with_world s v) w (b.1 (length v.store) l a y))
+    (λ a v w l y. run_well c well (k a) (with_world s v) w (b.1 (length v.store) l a y))
 run_well c well (Call f this vs target k) s h b =
     returned_well (length s.world.store) (c f this vs target s) (λ v. run c (k v)) (well f this vs target s h b.0 b.1 b.2 b.3)
-      (λ v t w l y. run_well c well (k v) t w (b.4 (length t.world.store) l v y))
+    (λ v t w l y. run_well c well (k v) t w (b.4 (length t.world.store) l v y))
 run_well c well (Try f this vs target k) s h b =
     ended_well (length s.world.store) (c f this vs target s) (λ v. run c (k v)) (well f this vs target s h b.0 b.1 b.2 b.3)
-      (λ v t w l y. run_well c well (k v) t w (b.4 (length t.world.store) l v y))
+    (λ v t w l y. run_well c well (k v) t w (b.4 (length t.world.store) l v y))

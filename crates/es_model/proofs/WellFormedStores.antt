@@ -1,14 +1,14 @@
 -- Every deed that speaks of things that stand keeps the world well-formed.
-use Rattle.std.proofs.Common.{◌≡◌, ℕ, zero, suc, ◌+◌, ◌<◌, ◌≤◌, Bool, true, false, cond, not, ◌&&◌, ◌||◌, List, [], ◌∷◌, ◌++◌, length, set, filter, ◌==◌, arith, refl, sym, ap, ◌∙◌, subst, Option, Some, None, IfSome, slice_get, length-set, length-append, le_refl}
-use Rattle.js_value.specs.Value.{Value, Text, Key, Named}
-use Rattle.js_value.specs.Store.{Store, Thing, AnObject, ACell, AMark, ObjectRecord, CellRecord, Property, Content, Data, Accessor, Class, Ordinary, Array, ScriptFunction, BuiltInFunction, ResolveFunction, RejectFunction, Error, Promise, PromiseState, Pending, Fulfilled, Rejected, Reaction, object_in, cell_in, mark_in, as_object, as_cell, no_object, no_cell, own_property, with_property, is_length_of, frozen, size}
+use Rattle.std.proofs.Common.{◌≡◌, ℕ, ◌+◌, ◌<◌, ◌≤◌, Bool, true, false, cond, not, ◌||◌, List, [], ◌∷◌, ◌++◌, length, set, filter, ◌==◌, arith, refl, sym, ap, ◌∙◌, subst, Option, Some, None, IfSome, slice_get, length-set, length-append}
+use Rattle.js_value.specs.Value.{Text, Named}
+use Rattle.js_value.specs.Store.{Store, Thing, AnObject, ACell, AMark, ObjectRecord, Property, Content, Data, Accessor, Class, Ordinary, Array, ScriptFunction, BuiltInFunction, ResolveFunction, RejectFunction, Error, Promise, PromiseState, Pending, Fulfilled, Rejected, Reaction, object_in, cell_in, mark_in, as_object, as_cell, no_object, own_property, is_length_of, frozen, size}
 use Rattle.js_value.specs.Order.{IsOrderly}
-use Rattle.js_value.specs.WellFormed.{IsValueBelow, IfValueBelow, IfNumberBelow, AreNumbersBelow, IsContentBelow, IsStateBelow, IsReactionBelow, AreReactionsBelow, IsClassBelow, IsObjectBelow, IsThingBelow, IsThingOrderly, ChainEnds, IsWellFormed}
-use Rattle.js_value.proofs.Below.{value_more, object_more, if_value_more, numbers_more, thing_more}
-use Rattle.es_model.specs.State.{World, State, Ledger, Counts, plus, nothing, some_slots, some_units, Job, FulfilJob, RejectJob, ThenableJob}
-use Rattle.es_model.specs.Ledger.{Event, Happens, Stops, Full, charged, charged_unless, passed, written, with_thing, first_cost, with_name, name_added, name_cost, growth}
-use Rattle.es_model.specs.InternalMethods.{Method, DefineOwnProperty, Delete, PreventExtensions, SetPrototypeOf, Freeze, apply_method, set_prototype_of, same_prototype, on_chain, longest, refused, unchanged, wrote, prevent_extensions, freeze, delete_own_property}
-use Rattle.es_model.specs.Events.{Deed, Answer, perform, Make, Apply, Attach, SetCell, SetMark, Settle, AddReaction, Enqueue, Dequeue, AddRejection, RemoveRejection, MakeText, Write, Take, apply_outcome, settle_class, react_class, dequeue, attached, with_prototype, pointing_to, prototype_name}
+use Rattle.js_value.specs.WellFormed.{IfValueBelow, AreNumbersBelow, IsContentBelow, IsStateBelow, IsReactionBelow, AreReactionsBelow, IsClassBelow, IsObjectBelow, IsThingBelow, IsThingOrderly, ChainEnds, IsWellFormed}
+use Rattle.js_value.proofs.Below.{value_more, object_more, if_value_more, numbers_more}
+use Rattle.es_model.specs.State.{World, Ledger, Counts, plus, nothing, some_slots, some_units, Job, FulfilJob, RejectJob, ThenableJob}
+use Rattle.es_model.specs.Ledger.{Happens, Full, charged, charged_unless, passed, written, with_thing, first_cost, with_name, name_added, name_cost, growth}
+use Rattle.es_model.specs.InternalMethods.{Method, DefineOwnProperty, Delete, PreventExtensions, SetPrototypeOf, Freeze, apply_method, set_prototype_of, same_prototype, on_chain, longest, refused, unchanged, wrote, prevent_extensions, freeze}
+use Rattle.es_model.specs.Events.{Deed, perform, Make, Apply, Attach, SetCell, SetMark, Settle, AddReaction, Enqueue, Dequeue, AddRejection, RemoveRejection, MakeText, Write, Take, apply_outcome, settle_class, react_class, dequeue, attached, with_prototype, pointing_to, prototype_name}
 use Rattle.es_model.specs.Laws.{IfHappens, IsMethodBelow, IsDeedBelow, IsJobBelow, AreJobsBelow, IsAnswerBelow, AreReactionAnswersBelow, IsJobAnswerBelow, IsWorldWellFormed}
 use Rattle.es_model.proofs.Chains.{set_keeps, append_keeps, set_chain, append_chain, prototype_chain, cut_chain}
 use Rattle.es_model.proofs.Prototypes.{define_prototype, delete_prototype, with_property_prototype}
@@ -150,7 +150,7 @@ apply_well w n m before answer (Some after) h o b c =
     let name : Option Text = name_added w m before after in
     let store : IsWellFormed (set w.store n (AnObject after)) = set_well w.store n (AnObject after) h.store o b c in
     written_well (λ a v. IsWorldWellFormed v × (Unit {0})) (with_name name w) n (AnObject before) (AnObject after) (plus (growth before after) (name_cost m name)) answer
-      (name_well w name h, tt) (λ l. (by_name name l store, tt))
+    (name_well w name h, tt) (λ l. (by_name name l store, tt))
   where
     by_name : (name : Option Text) (l : Ledger) → IsWellFormed (set w.store n (AnObject after)) → IsWorldWellFormed (record (with_name name w) { store = set (with_name name w).store n (AnObject after); ledger = l })
     by_name None l g = ledger_well (record w { store = set w.store n (AnObject after) }) l (store_well w (set w.store n (AnObject after)) (set_le w.store n (AnObject after)) h g)
@@ -170,14 +170,14 @@ promise_set w n state reactions h s r l =
     let o : ObjectRecord = object_in w.store n in
     let t : Thing = AnObject (record o { class = Promise state reactions }) in
     ledger_well (record w { store = set w.store n t }) l
-      (store_well w (set w.store n t) (set_le w.store n t) h
-        (set_well w.store n t h.store (promise_orderly o state reactions (h.store.orderly n)) (promise_below (length w.store) o state reactions s r (h.store.objects n)) (set_chain w.store n t refl)))
+    (store_well w (set w.store n t) (set_le w.store n t) h
+    (set_well w.store n t h.store (promise_orderly o state reactions (h.store.orderly n)) (promise_below (length w.store) o state reactions s r (h.store.objects n)) (set_chain w.store n t refl)))
 
 settle_well : (w : World) (n : ℕ) (state : PromiseState) (c : Class) → IsWorldWellFormed w → IsStateBelow (length w.store) state → IsClassBelow (length w.store) c → IfHappens (settle_class w n state (object_in w.store n) c) (λ a v. IsWorldWellFormed v × AreReactionAnswersBelow (length v.store) a)
 settle_well w n state (Promise Pending reactions) h s b =
     let t : Thing = AnObject (record (object_in w.store n) { class = Promise state [] }) in
     written_well (λ a v. IsWorldWellFormed v × AreReactionAnswersBelow (length v.store) a) w n (AnObject (object_in w.store n)) t nothing (Some reactions) (h, b.1)
-      (λ l. (promise_set w n state [] h s tt l, subst (λ m. AreReactionsBelow m reactions) (sym (length-set w.store n t)) b.1))
+    (λ l. (promise_set w n state [] h s tt l, subst (λ m. AreReactionsBelow m reactions) (sym (length-set w.store n t)) b.1))
 settle_well w n state (Promise (Fulfilled v) reactions) h s b = (h, tt)
 settle_well w n state (Promise (Rejected v) reactions) h s b = (h, tt)
 settle_well w n state Ordinary h s b = (h, tt)
@@ -197,7 +197,7 @@ react_well w n r (Promise Pending reactions) h q b =
     let o : ObjectRecord = object_in w.store n in
     let after : ObjectRecord = record o { class = Promise Pending (reactions ++ r ∷ []) } in
     written_well (λ a v. IsWorldWellFormed v × (Unit {0})) w n (AnObject o) (AnObject after) (growth o after) tt (h, tt)
-      (λ l. (promise_set w n Pending (reactions ++ r ∷ []) h tt (reactions_append (length w.store) reactions r b.1 q) l, tt))
+    (λ l. (promise_set w n Pending (reactions ++ r ∷ []) h tt (reactions_append (length w.store) reactions r b.1 q) l, tt))
 react_well w n r (Promise (Fulfilled v) reactions) h q b = (h, tt)
 react_well w n r (Promise (Rejected v) reactions) h q b = (h, tt)
 react_well w n r Ordinary h q b = (h, tt)
@@ -248,9 +248,9 @@ attach_well w f p (Some (AnObject o)) e l h =
     let below : IsObjectBelow (length w.store) o = subst (IsObjectBelow (length w.store)) here (h.store.objects f) in
     let after : Thing = AnObject (with_prototype p o q) in
     store_well w (set w.store f after) (set_le w.store f after) h
-      (set_well w.store f after h.store (with_prototype_orderly p o q orderly)
-        (with_prototype_below (length w.store) p o q l (own_property_below (length w.store) o (Named prototype_name) below) below)
-        (set_chain w.store f after (with_prototype_same p o q ∙ ap (λ (x : ObjectRecord). x.prototype) (sym here))))
+    (set_well w.store f after h.store (with_prototype_orderly p o q orderly)
+    (with_prototype_below (length w.store) p o q l (own_property_below (length w.store) o (Named prototype_name) below) below)
+    (set_chain w.store f after (with_prototype_same p o q ∙ ap (λ (x : ObjectRecord). x.prototype) (sym here))))
 attach_well w f p (Some (ACell c)) e l h = h
 attach_well w f p (Some (AMark b)) e l h = h
 attach_well w f p None e l h = h
@@ -291,13 +291,13 @@ perform_well (Make t) w h b =
     let s : Store = w.store ++ t ∷ [] in
     let long : length s ≡ length w.store + 1 = length-append w.store (t ∷ []) in
     charged_well (λ a v. IsWorldWellFormed v × (a < length v.store)) (some_slots (size t)) (length w.store) (record w { store = s })
-      (λ l. (ledger_well (record w { store = s }) l (store_well w s (omega (arith, long)) h (append_well w.store t h.store b.1 b.0)), omega (arith, long)))
+    (λ l. (ledger_well (record w { store = s }) l (store_well w s (omega (arith, long)) h (append_well w.store t h.store b.1 b.0)), omega (arith, long)))
 perform_well (Apply n m) w h b =
     let before : ObjectRecord = object_in w.store n in
     apply_well w n m before (apply_method m w.store n before).answer (apply_method m w.store n before).written h
-      (method_orderly m w.store n before (has_key (length w.store) m b) (h.store.orderly n))
-      (method_below (length w.store) m w.store n before b (h.store.objects n))
-      (method_chain m w.store n)
+    (method_orderly m w.store n before (has_key (length w.store) m b) (h.store.orderly n))
+    (method_below (length w.store) m w.store n before b (h.store.objects n))
+    (method_chain m w.store n)
 perform_well (Attach f p) w h b = (attach_well w f p (slice_get w.store f) refl b h, tt)
 perform_well (SetCell n v) w h b = other_well w n (ACell (cell_in w.store n)) (ACell (record { value = Some v; const = (cell_in w.store n).const })) nothing h tt b refl
 perform_well (SetMark n) w h b = other_well w n (AMark (mark_in w.store n)) (AMark true) nothing h tt tt refl

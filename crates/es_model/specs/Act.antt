@@ -1,6 +1,6 @@
 -- Acts: operations as data. An act may ask and do what events allow, take a turn, throw, stop, and call a function and
 -- go on with what it returned. It sees neither meter nor depth, and it runs over any way of calling.
-use Rattle.std.specs.Prelude.{ℕ, zero, suc, List, [], ◌∷◌, Option, Some, None}
+use Rattle.std.specs.Prelude.{ℕ, zero, suc, List, Option}
 use Rattle.js_value.specs.Value.{Value}
 use Rattle.es_model.specs.State.{World, State}
 use Rattle.es_model.specs.Ledger.{Event, Happens, Stops, Stop, Budget, OutOf}
@@ -16,10 +16,10 @@ pub data Act : Type 0 where
   Give : Value → Act
   Throw : Value → Act
   Halt : Stop → Act
-  Turn : Act → Act                                        -- takes a unit of the meter first
+  Turn : Act → Act  -- takes a unit of the meter first
   Ask : (q : Question) → (Reply q → Act) → Act
   Do : (d : Deed) → (Answer d → Act) → Act
-  Call : (function this : Value) → (arguments : List Value) → (target : Option Value) → (Value → Act) → Act       -- what it throws goes out
+  Call : (function this : Value) → (arguments : List Value) → (target : Option Value) → (Value → Act) → Act  -- what it throws goes out
   Try : (function this : Value) → (arguments : List Value) → (target : Option Value) → (Completion → Act) → Act
 
 -- one act after another

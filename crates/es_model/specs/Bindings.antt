@@ -1,7 +1,7 @@
 -- The cells of captured bindings (ECMA-262 9.1.1.1). The cells of other bindings are no part of the store.
-use Rattle.std.specs.Prelude.{ℕ, Bool, true, false, cond, Option, Some, None}
+use Rattle.std.specs.Prelude.{ℕ, Bool, cond, Option, Some, None}
 use Rattle.js_value.specs.Value.{Value}
-use Rattle.js_value.specs.Store.{ACell, CellRecord}
+use Rattle.js_value.specs.Store.{ACell}
 use Rattle.es_model.specs.Messages.{NotInitialised, AssignmentToConstant}
 use Rattle.es_model.specs.Events.{TheCell, Make, SetCell}
 use Rattle.es_model.specs.Act.{Act, Ask, Do}

@@ -1,5 +1,5 @@
 -- Type conversion (ECMA-262 7.1), and the equality that converts (7.2.14).
-use Rattle.std.specs.Prelude.{ℕ, zero, suc, Bool, true, false, cond, not, List, [], ◌∷◌, ℤ, pos, negsuc, Option, Some, None, codes}
+use Rattle.std.specs.Prelude.{ℕ, zero, suc, Bool, true, false, cond, [], ℤ, pos, Option, Some, None, codes}
 use Rattle.js_value.specs.Value.{Value, Undefined, Null, Boolean, Number, String, Object, is_object, Text, Key, Named, key_of_text, key_of_number}
 use Rattle.js_value.specs.Number.{number_of_text, text_of_number}
 use Rattle.es_model.specs.Equality.{is_strictly_equal}
@@ -36,8 +36,8 @@ to_string_name = codes "toString"
 abbrev pub primitive_by : ℕ → Text → (next : Act) → (Value → Act) → Act
 primitive_by n name next k =
     get n (Named name) (λ method.
-      is_callable method (λ callable.
-        cond callable (Call method (Object n) [] None (λ result. cond (is_object result) next (k result))) next))
+    is_callable method (λ callable.
+    cond callable (Call method (Object n) [] None (λ result. cond (is_object result) next (k result))) next))
 
 abbrev pub ordinary_to_primitive : ℕ → Hint → (Value → Act) → Act
 ordinary_to_primitive n StringHint k = primitive_by n to_string_name (primitive_by n value_of_name (raise NoPrimitiveValue) k) k
@@ -115,18 +115,18 @@ pub data Comparison : Type 0 where
   PrimitiveRight : Comparison
 
 abbrev pub comparison : (x y : Value) → Comparison
-comparison Null Undefined = Equals true                     -- 2
-comparison Undefined Null = Equals true                     -- 3
-comparison (Number a) (String t) = NumberRight              -- 5
-comparison (String t) (Number b) = NumberLeft               -- 6
-comparison (Boolean a) (Boolean b) = Equals (is_strictly_equal (Boolean a) (Boolean b))   -- 1
-comparison (Boolean a) y = NumberLeft                       -- 9
-comparison x (Boolean b) = NumberRight                      -- 10
-comparison (Number a) (Object n) = PrimitiveRight           -- 11
-comparison (String t) (Object n) = PrimitiveRight           -- 11
-comparison (Object n) (Number b) = PrimitiveLeft            -- 12
-comparison (Object n) (String t) = PrimitiveLeft            -- 12
-comparison x y = Equals (is_strictly_equal x y)             -- 1, 14
+comparison Null Undefined = Equals true  -- 2
+comparison Undefined Null = Equals true  -- 3
+comparison (Number a) (String t) = NumberRight  -- 5
+comparison (String t) (Number b) = NumberLeft  -- 6
+comparison (Boolean a) (Boolean b) = Equals (is_strictly_equal (Boolean a) (Boolean b))  -- 1
+comparison (Boolean a) y = NumberLeft  -- 9
+comparison x (Boolean b) = NumberRight  -- 10
+comparison (Number a) (Object n) = PrimitiveRight  -- 11
+comparison (String t) (Object n) = PrimitiveRight  -- 11
+comparison (Object n) (Number b) = PrimitiveLeft  -- 12
+comparison (Object n) (String t) = PrimitiveLeft  -- 12
+comparison x y = Equals (is_strictly_equal x y)  -- 1, 14
 
 abbrev pub next_comparison : Comparison → ((x y : Value) → (Bool → Act) → Act) → (x y : Value) → (Bool → Act) → Act
 next_comparison (Equals b) again x y k = k b

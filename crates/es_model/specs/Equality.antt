@@ -1,6 +1,6 @@
 -- The equalities that call nothing (ECMA-262 7.2). A number of the profile is no NaN and no negative zero, so
 -- SameValue, SameValueZero and IsStrictlyEqual have one result.
-use Rattle.std.specs.Prelude.{Bool, true, false, not, ◌==◌, ℤ, Option, Some, None}
+use Rattle.std.specs.Prelude.{Bool, true, false, not, ◌==◌}
 use Rattle.std.specs.Ordering.{int_eq}
 use Rattle.js_value.specs.Value.{Value, Undefined, Null, Boolean, Number, String, Object, same_text}
 

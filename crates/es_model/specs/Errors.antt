@@ -1,5 +1,5 @@
 -- Throwing one of the engine's errors, and making a text.
-use Rattle.std.specs.Prelude.{ℕ, Bool, true, false, cond, List, [], ◌∷◌, length, nat_lt, Option, Some, None, codes}
+use Rattle.std.specs.Prelude.{ℕ, true, false, cond, [], ◌∷◌, length, nat_lt, Some, codes}
 use Rattle.js_value.specs.Value.{Value, Object, String, Text}
 use Rattle.js_value.specs.Store.{AnObject, ObjectRecord, Error, Property, Data}
 use Rattle.es_model.specs.Messages.{Message, StringTooLong, ErrorKind, RangeError, ReferenceError, TypeError, kind_of_message, text_of_message}

@@ -1,10 +1,10 @@
 -- What operations may ask of the world and do to it. Each deed is one event of the ledger.
-use Rattle.std.specs.Prelude.{ℕ, zero, suc, ◌+◌, ◌*◌, Bool, true, false, cond, not, List, [], ◌∷◌, ◌++◌, length, ◌==◌, Option, Some, None, get_or, set, slice_get, filter, codes}
+use Rattle.std.specs.Prelude.{ℕ, Bool, true, not, List, [], ◌∷◌, ◌++◌, length, ◌==◌, Option, Some, None, get_or, set, slice_get, filter, codes}
 use Rattle.js_value.specs.Value.{Value, Object, Text, Key, Named}
 use Rattle.js_value.specs.Store.{Store, Thing, AnObject, ACell, AMark, ObjectRecord, CellRecord, Property, Content, Data, Accessor, Class, Promise, PromiseState, Pending, Reaction, object_in, cell_in, mark_in, own_property, with_property, size}
-use Rattle.es_model.specs.State.{World, nothing, some_slots, some_units, plus, Job, TraceEvent, Wrote, Took}
-use Rattle.es_model.specs.InternalMethods.{Method, apply_method, Outcome, find_property, SetStep, set_step}
-use Rattle.es_model.specs.Ledger.{Event, Happens, Stops, charged, written, with_name, name_added, name_cost, growth}
+use Rattle.es_model.specs.State.{World, nothing, some_slots, some_units, plus, Job, Wrote, Took}
+use Rattle.es_model.specs.InternalMethods.{Method, apply_method, find_property, SetStep, set_step}
+use Rattle.es_model.specs.Ledger.{Event, Happens, charged, written, with_name, name_added, name_cost, growth}
 
 -- ---- questions
 
@@ -12,10 +12,10 @@ pub data Question : Type 0 where
   TheObject : ℕ → Question
   TheCell : ℕ → Question
   TheMark : ℕ → Question
-  TheProperty : Key → ℕ → Question                                                        -- on the object or along its prototype chain
+  TheProperty : Key → ℕ → Question  -- on the object or along its prototype chain
   TheSetStep : Key → Value → (receiver : Value) → (found : Option Property) → Question
-  TheIntrinsic : ℕ → Question                                                             -- the realm's thing at a place
-  TheInput : Question                                                                     -- the bytes that are left, where there is a host
+  TheIntrinsic : ℕ → Question  -- the realm's thing at a place
+  TheInput : Question  -- the bytes that are left, where there is a host
 
 abbrev pub Reply : Question → Type 0
 Reply (TheObject n) = ObjectRecord
@@ -38,13 +38,13 @@ reply TheInput w = w.input
 -- ---- deeds
 
 pub data Deed : Type 0 where
-  Make : Thing → Deed                                     -- a new thing
-  Apply : ℕ → Method → Deed                               -- an internal method on an object
-  Attach : (function prototype : ℕ) → Deed                -- gives a function that is being made its `prototype`
+  Make : Thing → Deed  -- a new thing
+  Apply : ℕ → Method → Deed  -- an internal method on an object
+  Attach : (function prototype : ℕ) → Deed  -- gives a function that is being made its `prototype`
   SetCell : ℕ → Value → Deed
   SetMark : ℕ → Deed
-  Settle : ℕ → PromiseState → Deed                        -- a promise that is pending
-  AddReaction : ℕ → Reaction → Deed                       -- to a promise that is pending
+  Settle : ℕ → PromiseState → Deed  -- a promise that is pending
+  AddReaction : ℕ → Reaction → Deed  -- to a promise that is pending
   Enqueue : Job → Deed
   Dequeue : Deed
   AddRejection : ℕ → Deed

@@ -1,6 +1,6 @@
 -- The internal methods of ordinary objects (ECMA-262 10.1) and arrays (10.4.2) that call no function. Each one answers
 -- true or false and may write its own object; [[Get]] and [[Set]] come as far as the call of a getter or setter.
-use Rattle.std.specs.Prelude.{ℕ, zero, suc, ◌+◌, Bool, true, false, cond, not, ◌&&◌, ◌||◌, List, [], ◌∷◌, ℤ, pos, nat_lt, nat_le, ◌==◌, Option, Some, None, is_some, unwrap_or, option_map}
+use Rattle.std.specs.Prelude.{ℕ, zero, suc, Bool, true, false, cond, not, ◌&&◌, ◌||◌, List, [], ◌∷◌, pos, nat_lt, nat_le, ◌==◌, Option, Some, None, is_some, unwrap_or, option_map}
 use Rattle.std.specs.Option.{option_map_or}
 use Rattle.js_value.specs.Value.{Value, Undefined, Number, Object, same_text, Key, Index, Named, is_index, text_of_key}
 use Rattle.js_value.specs.Store.{Store, Content, Data, Accessor, Property, Class, Array, ObjectRecord, object_in, own_property, with_property, without_property, length_name}
@@ -79,9 +79,9 @@ forbidden_content (Data value false) d = differs d.writable false || differs_val
 -- step 5: what a property that isn't configurable doesn't let a descriptor do
 abbrev pub forbidden : Property → PropertyDescriptor → Bool
 forbidden current d =
-    differs d.configurable false                                                                          -- 5.a
-    || differs d.enumerable current.enumerable                                                            -- 5.b
-    || (not (is_generic_descriptor d) && not (same_bool (is_accessor_descriptor d) (is_accessor current.content)))   -- 5.c
+    differs d.configurable false  -- 5.a
+    || differs d.enumerable current.enumerable  -- 5.b
+    || (not (is_generic_descriptor d) && not (same_bool (is_accessor_descriptor d) (is_accessor current.content)))  -- 5.c
     || forbidden_content current.content d
 
 -- steps 2.c and 2.d: absent fields are false or undefined
@@ -102,10 +102,10 @@ abbrev pub applied : Property → PropertyDescriptor → Property
 applied current d = record { content = applied_content current.content d; enumerable = unwrap_or d.enumerable current.enumerable; configurable = unwrap_or d.configurable current.configurable }
 
 unfoldable pub validate_and_apply_property_descriptor : ObjectRecord → Key → PropertyDescriptor → Option Property → Outcome
-validate_and_apply_property_descriptor o key d None = cond o.extensible (wrote (with_property o key (new_property d))) refused   -- 2
+validate_and_apply_property_descriptor o key d None = cond o.extensible (wrote (with_property o key (new_property d))) refused  -- 2
 validate_and_apply_property_descriptor o key d (Some current) = cond (has_fields d)
-    (cond (not current.configurable && forbidden current d) refused (wrote (with_property o key (applied current d))))           -- 5 to 7
-    unchanged                                                                                                                   -- 4
+    (cond (not current.configurable && forbidden current d) refused (wrote (with_property o key (applied current d))))  -- 5 to 7
+    unchanged  -- 4
 
 -- OrdinaryDefineOwnProperty (10.1.6.1)
 abbrev pub ordinary_define_own_property : ObjectRecord → Key → PropertyDescriptor → Outcome
@@ -137,14 +137,14 @@ lowered o old new reached writable = record {
 
 abbrev pub set_length_to : ObjectRecord → (old : ℕ) → (writable : Bool) → PropertyDescriptor → (new : ℕ) → Outcome
 set_length_to o old writable d new =
-    cond (nat_le old new) (ordinary_define_own_property o (Named length_name) d)                       -- 11
-      (cond (writable && (ordinary_define_own_property o (Named length_name) d).answer)                -- 12, 15, 16
-        (lowered o old new (lowest_length new o.indexed) (unwrap_or d.writable true))                  -- 17 to 19
-        refused)
+    cond (nat_le old new) (ordinary_define_own_property o (Named length_name) d)  -- 11
+    (cond (writable && (ordinary_define_own_property o (Named length_name) d).answer)  -- 12, 15, 16
+    (lowered o old new (lowest_length new o.indexed) (unwrap_or d.writable true))  -- 17 to 19
+    refused)
 
 -- ArraySetLength (10.4.2.4). Own rule: its caller has converted the value; another than a length is refused.
 abbrev pub length_set_by : ObjectRecord → (old : ℕ) → (writable : Bool) → PropertyDescriptor → Option Value → Outcome
-length_set_by o old writable d None = ordinary_define_own_property o (Named length_name) d                -- 1
+length_set_by o old writable d None = ordinary_define_own_property o (Named length_name) d  -- 1
 length_set_by o old writable d (Some v) = option_map_or (set_length_to o old writable d) (length_of_value v) refused
 
 abbrev pub array_set_length : ObjectRecord → (old : ℕ) → (writable : Bool) → PropertyDescriptor → Outcome
@@ -156,7 +156,7 @@ raised i (Array n writable) o = cond (nat_lt i n) o (record o { class = Array (s
 raised i _ o = o
 
 abbrev pub array_define_index : ObjectRecord → (length : ℕ) → (writable : Bool) → ℕ → PropertyDescriptor → Outcome
-array_define_index o length writable i d = cond (nat_le length i && not writable) refused                 -- 2.g
+array_define_index o length writable i d = cond (nat_le length i && not writable) refused  -- 2.g
     (record { answer = defined.answer; written = option_map (raised i o.class) defined.written })
   where
     defined : Outcome
@@ -253,9 +253,9 @@ same_prototype _ _ = false
 
 unfoldable pub set_prototype_of : Store → ℕ → Option ℕ → ObjectRecord → Outcome
 set_prototype_of s n v o =
-    cond (same_prototype v o.prototype) unchanged                                        -- 1, 2
-      (cond (not o.extensible || on_chain longest s n v) refused                         -- 3 to 7
-        (wrote (record o { prototype = v })))                                            -- 8, 9
+    cond (same_prototype v o.prototype) unchanged  -- 1, 2
+    (cond (not o.extensible || on_chain longest s n v) refused  -- 3 to 7
+    (wrote (record o { prototype = v })))  -- 8, 9
 
 -- ---- [[Set]]: OrdinarySetWithOwnDescriptor (10.1.9.2), as far as it calls nothing
 
@@ -266,28 +266,28 @@ pub data SetStep : Type 0 where
 
 -- steps 2.c to 2.e, by the property that the receiver has
 abbrev pub set_own_content : ℕ → Content → Value → SetStep
-set_own_content receiver (Accessor get set) v = RefusesSet                               -- 2.d.i
-set_own_content receiver (Data old writable) v = cond writable (DefinesOn receiver (value_descriptor v)) RefusesSet   -- 2.d.ii to 2.d.iv
+set_own_content receiver (Accessor get set) v = RefusesSet  -- 2.d.i
+set_own_content receiver (Data old writable) v = cond writable (DefinesOn receiver (value_descriptor v)) RefusesSet  -- 2.d.ii to 2.d.iv
 
 abbrev pub set_own : ℕ → Option Property → Value → SetStep
-set_own receiver None v = DefinesOn receiver (data_descriptor v)                         -- 2.e
+set_own receiver None v = DefinesOn receiver (data_descriptor v)  -- 2.e
 set_own receiver (Some p) v = set_own_content receiver p.content v
 
 abbrev pub set_data : Store → Key → Value → (receiver : Value) → SetStep
 set_data s key v (Object r) = set_own r (own_property (object_in s r) key) v
-set_data s key v _ = RefusesSet                                                          -- 2.b
+set_data s key v _ = RefusesSet  -- 2.b
 
 abbrev pub set_by_setter : Value → SetStep
-set_by_setter Undefined = RefusesSet                                                     -- 5
-set_by_setter f = CallsSetter f                                                          -- 6
+set_by_setter Undefined = RefusesSet  -- 5
+set_by_setter f = CallsSetter f  -- 6
 
 abbrev pub set_content : Store → Key → Value → (receiver : Value) → Content → SetStep
-set_content s key v receiver (Data old writable) = cond writable (set_data s key v receiver) RefusesSet   -- 2.a
-set_content s key v receiver (Accessor get set) = set_by_setter set                      -- 3 to 7
+set_content s key v receiver (Data old writable) = cond writable (set_data s key v receiver) RefusesSet  -- 2.a
+set_content s key v receiver (Accessor get set) = set_by_setter set  -- 3 to 7
 
 -- by the property that was found along the chain
 unfoldable pub set_step : Store → Key → Value → (receiver : Value) → Option Property → SetStep
-set_step s key v receiver None = set_data s key v receiver                               -- 1.c
+set_step s key v receiver None = set_data s key v receiver  -- 1.c
 set_step s key v receiver (Some p) = set_content s key v receiver p.content
 
 -- ---- all that writes an object, and what it answers and leaves

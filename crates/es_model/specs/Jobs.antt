@@ -1,7 +1,7 @@
 -- Promises and their jobs (ECMA-262 27.2).
-use Rattle.std.specs.Prelude.{ℕ, Bool, true, false, cond, List, [], ◌∷◌, pos, Option, Some, None, codes}
-use Rattle.js_value.specs.Value.{Value, Undefined, Number, String, Object, Text, Named}
-use Rattle.js_value.specs.Store.{AnObject, AMark, ObjectRecord, Class, ResolveFunction, RejectFunction, Promise, PromiseState, Pending, Fulfilled, Rejected, Reaction, Property, Data, length_name}
+use Rattle.std.specs.Prelude.{ℕ, true, false, cond, List, [], ◌∷◌, pos, Option, Some, None, codes}
+use Rattle.js_value.specs.Value.{Value, Undefined, Number, String, Object, Named}
+use Rattle.js_value.specs.Store.{AnObject, AMark, ObjectRecord, Class, ResolveFunction, RejectFunction, Promise, Pending, Fulfilled, Rejected, Reaction, Property, Data, length_name}
 use Rattle.es_model.specs.Equality.{same_value}
 use Rattle.es_model.specs.State.{Job, FulfilJob, RejectJob, ThenableJob}
 use Rattle.es_model.specs.Messages.{ResolvedWithItself}
@@ -42,20 +42,20 @@ reject_promise p reason k = Do (Settle p (Rejected reason)) (λ reactions. rejec
 
 -- steps 8 to 15 of a resolve function (27.2.1.3.2), by what reading `then` came to
 abbrev pub resolve_with_then : ℕ → (resolution : Value) → Completion → Act → Act
-resolve_with_then p resolution (ThrowCompletion e) k = reject_promise p e k                                   -- 10
+resolve_with_then p resolution (ThrowCompletion e) k = reject_promise p e k  -- 10
 resolve_with_then p resolution (NormalCompletion next) k =
     is_callable next (λ callable.
-      cond callable (Do (Enqueue (ThenableJob p resolution next)) (λ _. k))                                   -- 13 to 15
-        (fulfil_promise p resolution k))                                                                      -- 12
+    cond callable (Do (Enqueue (ThenableJob p resolution next)) (λ _. k))  -- 13 to 15
+    (fulfil_promise p resolution k))  -- 12
 
 abbrev pub resolve_by_value : ℕ → (resolution : Value) → Act → Act
-resolve_by_value p (Object n) k = completed (get n (Named (codes "then")) Give) (λ c. resolve_with_then p (Object n) c k)   -- 9
-resolve_by_value p v k = fulfil_promise p v k                                                                 -- 8
+resolve_by_value p (Object n) k = completed (get n (Named (codes "then")) Give) (λ c. resolve_with_then p (Object n) c k)  -- 9
+resolve_by_value p v k = fulfil_promise p v k  -- 8
 
 -- steps 7 to 15
 unfoldable pub resolve_promise : ℕ → (resolution : Value) → Act → Act
 resolve_promise p resolution k = cond (same_value resolution (Object p))
-    (make_error ResolvedWithItself (λ e. reject_promise p (Object e) k))                                      -- 7
+    (make_error ResolvedWithItself (λ e. reject_promise p (Object e) k))  -- 7
     (resolve_by_value p resolution k)
 
 -- ---- resolving functions (27.2.1.3)
@@ -76,9 +76,9 @@ resolving_function class prototype = record {
 unfoldable pub create_resolving_functions : ℕ → ((mark resolve reject : ℕ) → Act) → Act
 create_resolving_functions p k =
     Do (Make (AMark false)) (λ mark.
-      Ask (TheIntrinsic function_prototype) (λ prototype.
-        Do (Make (AnObject (resolving_function (ResolveFunction p mark) prototype))) (λ resolve.
-          Do (Make (AnObject (resolving_function (RejectFunction p mark) prototype))) (λ reject. k mark resolve reject))))
+    Ask (TheIntrinsic function_prototype) (λ prototype.
+    Do (Make (AnObject (resolving_function (ResolveFunction p mark) prototype))) (λ resolve.
+    Do (Make (AnObject (resolving_function (RejectFunction p mark) prototype))) (λ reject. k mark resolve reject))))
 
 -- a call of one of them has an effect where none was called before
 abbrev pub first_call : (mark : ℕ) → (effect otherwise : Act) → Act

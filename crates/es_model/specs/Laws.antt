@@ -4,8 +4,8 @@ use Rattle.js_value.specs.Value.{Value, Text}
 use Rattle.js_value.specs.Store.{Reaction}
 use Rattle.js_value.specs.Order.{IsKey, IsOrderly}
 use Rattle.js_value.specs.WellFormed.{IsValueBelow, IfValueBelow, IfNumberBelow, AreNumbersBelow, AreValuesBelow, IsContentBelow, IsStateBelow, IsReactionBelow, AreReactionsBelow, IsObjectBelow, IsThingBelow, IsThingOrderly, IsWellFormed}
-use Rattle.es_model.specs.State.{World, State, Ledger, Counts, Job, FulfilJob, RejectJob, ThenableJob}
-use Rattle.es_model.specs.Ledger.{Event, Happens, Stops, Stop, OutOf}
+use Rattle.es_model.specs.State.{World, State, Job, FulfilJob, RejectJob, ThenableJob}
+use Rattle.es_model.specs.Ledger.{Event, Happens, Stops, OutOf}
 use Rattle.es_model.specs.InternalMethods.{PropertyDescriptor, Method, DefineOwnProperty, SetPrototypeOf, SetStep, RefusesSet, CallsSetter, DefinesOn}
 use Rattle.es_model.specs.Events.{Question, Reply, TheObject, TheCell, TheMark, TheProperty, TheSetStep, TheIntrinsic, TheInput, Deed, Answer, Make, Apply, Attach, SetCell, SetMark, Settle, AddReaction, Enqueue, Dequeue, AddRejection}
 use Rattle.es_model.specs.Act.{Act, Give, Throw, Halt, Turn, Ask, Do, Call, Try, Completion, NormalCompletion, ThrowCompletion, Ran, Ends, Halts, Calls, with_world}

@@ -1,7 +1,7 @@
 -- The ledger: what each event costs, and the events. An event that would pass a limit counts nothing and stops.
-use Rattle.std.specs.Prelude.{ℕ, ◌+◌, ◌-◌, Bool, true, false, cond, not, ◌&&◌, ◌||◌, List, [], ◌∷◌, ◌++◌, length, nat_lt, ◌==◌, Option, Some, None, get_or, set, slice_get, filter}
+use Rattle.std.specs.Prelude.{ℕ, ◌-◌, Bool, cond, [], ◌∷◌, ◌++◌, length, nat_lt, Option, Some, None, get_or, set}
 use Rattle.std.specs.List.{list_any}
-use Rattle.js_value.specs.Value.{Text, Key, Index, Named, Numeral, same_text, text_of_key}
+use Rattle.js_value.specs.Value.{Text, Key, Index, Numeral, same_text, text_of_key}
 use Rattle.js_value.specs.Store.{Thing, ObjectRecord, object_size, frozen}
 use Rattle.es_model.specs.State.{World, Counts, plus, nothing, some_slots}
 use Rattle.es_model.specs.InternalMethods.{Method, DefineOwnProperty}
@@ -18,7 +18,7 @@ pub data Stop : Type 0 where
   Budget : Stop
   Depth : Stop
   OutOf : Full → Stop
-  NoHost : Stop                      -- a host function was called where there is no host
+  NoHost : Stop  -- a host function was called where there is no host
 
 -- ---- an event: it happens and answers, or it stops the run
 
@@ -30,8 +30,8 @@ pub data Event (A : Type 0) : Type 0 where
 abbrev pub passed : (used room : Counts) → Option Full
 passed used room =
     cond (nat_lt room.units used.units) (Some Units)
-      (cond (nat_lt room.names used.names) (Some Names)
-        (cond (nat_lt room.slots used.slots) (Some Slots) None))
+    (cond (nat_lt room.names used.names) (Some Names)
+    (cond (nat_lt room.slots used.slots) (Some Slots) None))
 
 abbrev pub charged_unless : {A : Type 0} → Option Full → A → World → Event A
 charged_unless None a w = Happens a w

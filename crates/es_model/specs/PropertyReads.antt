@@ -1,6 +1,6 @@
 -- Reading properties, and testing for them and for callable values.
-use Rattle.std.specs.Prelude.{ℕ, Bool, true, false, cond, List, [], ◌∷◌, length, pos, Option, Some, None, is_some, slice_get}
-use Rattle.js_value.specs.Value.{Value, Undefined, Null, Boolean, Number, String, Object, Text, same_text, Key, Index, Named, Numeral, text_of_key}
+use Rattle.std.specs.Prelude.{ℕ, Bool, false, cond, [], ◌∷◌, length, pos, Option, Some, None, is_some, slice_get}
+use Rattle.js_value.specs.Value.{Value, Undefined, Boolean, Number, String, Object, Text, same_text, Key, Index, text_of_key}
 use Rattle.js_value.specs.Store.{Content, Data, Accessor, Property, callable_class, length_name}
 use Rattle.es_model.specs.Messages.{NoProperties}
 use Rattle.es_model.specs.Events.{TheObject, TheProperty, TheIntrinsic}
@@ -14,15 +14,15 @@ is_callable _ k = k false
 
 -- [[Get]]: OrdinaryGet (10.1.8.1) from step 2.b on, by the property that was found
 abbrev pub call_getter : Value → (receiver : Value) → (Value → Act) → Act
-call_getter Undefined receiver k = k Undefined                                  -- 6
-call_getter get receiver k = Call get receiver [] None k                        -- 7
+call_getter Undefined receiver k = k Undefined  -- 6
+call_getter get receiver k = Call get receiver [] None k  -- 7
 
 abbrev pub content_value : Content → (receiver : Value) → (Value → Act) → Act
-content_value (Data v writable) receiver k = k v                                -- 3
-content_value (Accessor get set) receiver k = call_getter get receiver k        -- 4 to 7
+content_value (Data v writable) receiver k = k v  -- 3
+content_value (Accessor get set) receiver k = call_getter get receiver k  -- 4 to 7
 
 unfoldable pub property_value : Option Property → (receiver : Value) → (Value → Act) → Act
-property_value None receiver k = k Undefined                                    -- 2.b
+property_value None receiver k = k Undefined  -- 2.b
 property_value (Some p) receiver k = content_value p.content receiver k
 
 -- Get (7.3.2)

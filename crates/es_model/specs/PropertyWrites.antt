@@ -1,13 +1,13 @@
 -- Writing, defining and deleting properties.
-use Rattle.std.specs.Prelude.{ℕ, Bool, true, false, cond, not, ◌&&◌, List, [], ◌∷◌, ℤ, pos, negsuc, nat_lt, Option, Some, None}
+use Rattle.std.specs.Prelude.{ℕ, Bool, true, false, cond, not, ◌&&◌, [], ◌∷◌, ℤ, pos, negsuc, nat_lt, Option, Some, None}
 use Rattle.js_value.specs.Value.{Value, Undefined, Null, Boolean, Number, String, Object, Text, Key, is_index, text_of_key}
-use Rattle.js_value.specs.Store.{ObjectRecord, Property, is_length_of}
-use Rattle.es_model.specs.InternalMethods.{PropertyDescriptor, data_descriptor, is_accessor_descriptor, Method, DefineOwnProperty, Delete, SetStep, RefusesSet, CallsSetter, DefinesOn}
+use Rattle.js_value.specs.Store.{Property, is_length_of}
+use Rattle.es_model.specs.InternalMethods.{PropertyDescriptor, data_descriptor, is_accessor_descriptor, DefineOwnProperty, Delete, SetStep, RefusesSet, CallsSetter, DefinesOn}
 use Rattle.es_model.specs.Messages.{InvalidArrayLength, NoProperties, NotWritable, NotDefinable, NotDeletable, AccessorOnIndex}
 use Rattle.es_model.specs.Events.{TheObject, TheProperty, TheSetStep, TheIntrinsic, Apply}
 use Rattle.es_model.specs.Act.{Act, Ask, Do, Call}
 use Rattle.es_model.specs.Errors.{raise, boolean_prototype, number_prototype, string_prototype}
-use Rattle.es_model.specs.PropertyReads.{StringProperty, Unit, Length, Inherits, string_property}
+use Rattle.es_model.specs.PropertyReads.{StringProperty, Inherits, string_property}
 use Rattle.es_model.specs.Conversions.{to_number, number_expected}
 
 -- How a value for an array's `length` becomes a number: operators convert it (to_number), and built-ins take no
@@ -28,8 +28,8 @@ with_length_value convert d (Some v) k = convert v (λ n. length_or_raise n (λ 
 unfoldable pub define_own_property : NumberConversion → ℕ → Key → PropertyDescriptor → (Bool → Act) → Act
 define_own_property convert n key d k = Ask (TheObject n) (λ o.
     cond (not (is_index key) && is_length_of o.class (text_of_key key))
-      (with_length_value convert d d.value (λ d. Do (Apply n (DefineOwnProperty key d)) k))
-      (Do (Apply n (DefineOwnProperty key d)) k))
+    (with_length_value convert d d.value (λ d. Do (Apply n (DefineOwnProperty key d)) k))
+    (Do (Apply n (DefineOwnProperty key d)) k))
 
 -- DefinePropertyOrThrow (7.3.8). Own rule: an accessor on an index is an error of its own.
 abbrev pub accepted_or : Act → Act → Bool → Act
@@ -39,7 +39,7 @@ accepted_or failure k false = failure
 unfoldable pub define_property_or_throw : NumberConversion → ℕ → Key → PropertyDescriptor → Act → Act
 define_property_or_throw convert n key d k =
     cond (is_index key && is_accessor_descriptor d) (raise AccessorOnIndex)
-      (define_own_property convert n key d (accepted_or (raise NotDefinable) k))
+    (define_own_property convert n key d (accepted_or (raise NotDefinable) k))
 
 -- CreateDataProperty (7.3.5), CreateDataPropertyOrThrow (7.3.6)
 unfoldable pub create_data_property : ℕ → Key → Value → (Bool → Act) → Act

@@ -1,7 +1,7 @@
 -- What a run holds. Operations see and change the world; the meter and the depth belong to calls.
-use Rattle.std.specs.Prelude.{ℕ, ◌+◌, ◌-◌, ◌*◌, Bool, true, false, List, [], ◌∷◌, length, map, sum_by, Option, Some, None}
+use Rattle.std.specs.Prelude.{ℕ, ◌+◌, ◌-◌, ◌*◌, Bool, true, false, List, [], length, map, sum_by, Option}
 use Rattle.js_value.specs.Value.{Value, Text}
-use Rattle.js_value.specs.Store.{Store, Thing, size}
+use Rattle.js_value.specs.Store.{Store, size}
 
 -- ---- jobs (ECMA-262 9.5)
 
@@ -74,14 +74,14 @@ pub record Ledger : Type 0 where
 
 pub record World : Type 0 where
   pub store : Store
-  pub realm : List ℕ                 -- the number of each thing of the realm, in the realm's order
-  pub names : List Text              -- the texts that are names, in the order in which they became so
+  pub realm : List ℕ  -- the number of each thing of the realm, in the realm's order
+  pub names : List Text  -- the texts that are names, in the order in which they became so
   pub ledger : Ledger
-  pub jobs : List Job                -- the first one runs first
-  pub rejections : List ℕ            -- promises that were rejected while they had no reaction
+  pub jobs : List Job  -- the first one runs first
+  pub rejections : List ℕ  -- promises that were rejected while they had no reaction
   pub modules : List ModuleState
   pub trace : List TraceEvent
-  pub input : Option (List ℕ)        -- the bytes that are left; none where there is no host
+  pub input : Option (List ℕ)  -- the bytes that are left; none where there is no host
 
 pub record State : Type 0 where
   pub world : World

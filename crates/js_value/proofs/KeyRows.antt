@@ -1,8 +1,8 @@
 -- Texts as numbers and as keys, and the order of own keys, by computing.
-use Rattle.std.proofs.Common.{◌≡◌, ℕ, ℤ, pos, negsuc, Bool, true, false, List, [], ◌∷◌, refl, Option, Some, None, codes}
-use Rattle.js_value.specs.Number.{text_of_number, number_of_text, index_of_text}
-use Rattle.js_value.specs.Value.{Value, Undefined, Number, Key, Index, Named, Numeral, key_of_text, key_of_number, text_of_key}
-use Rattle.js_value.specs.Store.{ObjectRecord, Ordinary, Array, Property, Data, own_keys, own_property, with_property, object_size, length_name, is_frozen}
+use Rattle.std.proofs.Common.{◌≡◌, pos, negsuc, true, [], ◌∷◌, refl, Some, None, codes}
+use Rattle.js_value.specs.Number.{number_of_text}
+use Rattle.js_value.specs.Value.{Value, Undefined, Index, Named, Numeral, key_of_text, key_of_number}
+use Rattle.js_value.specs.Store.{ObjectRecord, Array, Property, Data, own_keys, with_property, object_size}
 
 numbers : number_of_text (codes " 0x1F") ∷ number_of_text (codes "-12 ") ∷ number_of_text (codes "") ∷ number_of_text (codes "-0") ∷ number_of_text (codes "1e3") ∷ number_of_text (codes "9007199254740992") ∷ number_of_text (codes "007") ∷ []
     ≡ Some (pos 31) ∷ Some (negsuc 11) ∷ Some (pos 0) ∷ None ∷ None ∷ None ∷ Some (pos 7) ∷ []

@@ -1,5 +1,5 @@
 -- Numbers as texts, and texts as numbers.
-use Rattle.std.specs.Prelude.{ℕ, zero, suc, ◌+◌, ◌-◌, ◌*◌, Bool, true, false, cond, not, ◌&&◌, ◌||◌, List, [], ◌∷◌, length, reverse, ℤ, pos, negsuc, neg_ℤ, nat_lt, nat_le, ◌==◌, Option, Some, None, option_map, bytes_eq, is_none}
+use Rattle.std.specs.Prelude.{ℕ, zero, suc, ◌+◌, ◌-◌, ◌*◌, Bool, false, cond, ◌&&◌, ◌||◌, List, [], ◌∷◌, reverse, ℤ, pos, negsuc, nat_lt, nat_le, ◌==◌, Option, Some, None, bytes_eq}
 use Rattle.std.specs.Fmt.{digits_onto}
 
 -- the greatest number, 2 ^ 53 - 1
@@ -65,8 +65,8 @@ number_of_trimmed [] = Some (pos 0)
 number_of_trimmed (u ∷ []) = positive (some_digits 10 (u ∷ []))
 number_of_trimmed (u ∷ v ∷ us) =
     cond (u == 43) (positive (some_digits 10 (v ∷ us)))
-      (cond (u == 45) (negative (some_digits 10 (v ∷ us)))
-        (cond (u == 48) (positive (after_zero v us)) (positive (some_digits 10 (u ∷ v ∷ us)))))
+    (cond (u == 45) (negative (some_digits 10 (v ∷ us)))
+    (cond (u == 48) (positive (after_zero v us)) (positive (some_digits 10 (u ∷ v ∷ us)))))
 
 abbrev pub number_of_text : List ℕ → Option ℤ
 number_of_text us = number_of_trimmed (trimmed us)

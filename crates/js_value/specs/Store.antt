@@ -1,6 +1,6 @@
 -- The store: a list of things, each named by its place in it.
-use Rattle.std.specs.Prelude.{◌≡◌, ℕ, ◌+◌, ◌*◌, Bool, true, false, cond, not, ◌&&◌, List, [], ◌∷◌, ◌++◌, map, length, ℤ, pos, nat_lt, nat_eq, ◌==◌, Option, Some, None, slice_get, set, codes}
-use Rattle.js_value.specs.Value.{Value, Undefined, Number, Text, same_text, Key, Index, Named, Numeral, text_of_key}
+use Rattle.std.specs.Prelude.{ℕ, ◌+◌, ◌*◌, Bool, true, false, cond, not, ◌&&◌, List, [], ◌∷◌, ◌++◌, map, length, pos, nat_lt, nat_eq, ◌==◌, Option, Some, None, slice_get, set, codes}
+use Rattle.js_value.specs.Value.{Value, Undefined, Number, Text, same_text, Key, Index, Named, Numeral}
 use Rattle.js_value.specs.Number.{text_of_number}
 
 -- ---- properties (ECMA-262 6.1.7.1)
@@ -45,8 +45,8 @@ pub record ObjectRecord : Type 0 where
   pub class : Class
   pub prototype : Option ℕ
   pub extensible : Bool
-  pub indexed : List (ℕ × Property)         -- array indices, ascending
-  pub named : List (Text × Property)        -- other strings, in order of creation; an array's `length` isn't among them
+  pub indexed : List (ℕ × Property)  -- array indices, ascending
+  pub named : List (Text × Property)  -- other strings, in order of creation; an array's `length` isn't among them
 
 -- ---- things
 

@@ -1,5 +1,5 @@
 -- The language values of the profile (ECMA-262 6.1), and property keys (6.1.7).
-use Rattle.std.specs.Prelude.{ℕ, Bool, true, false, cond, List, ℤ, pos, nat_lt, ◌==◌, Option, Some, None, bytes_eq, int_lt, codes}
+use Rattle.std.specs.Prelude.{ℕ, Bool, true, false, cond, List, ℤ, pos, nat_lt, Option, Some, None, bytes_eq}
 use Rattle.js_value.specs.Number.{text_of_number, index_of_text}
 
 -- a text is a list of 16-bit units
@@ -15,7 +15,7 @@ pub data Value : Type 0 where
   Boolean : Bool → Value
   Number : ℤ → Value
   String : Text → Value
-  Object : ℕ → Value               -- by its place in the store
+  Object : ℕ → Value  -- by its place in the store
 
 abbrev pub is_object : Value → Bool
 is_object (Object n) = true

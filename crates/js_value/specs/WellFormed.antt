@@ -1,7 +1,7 @@
 -- Well-formed stores: the things that are spoken of exist, own keys are in order, and prototype chains end.
-use Rattle.std.specs.Prelude.{◌≡◌, ℕ, ◌<◌, Bool, List, [], ◌∷◌, length, Option, Some, None}
+use Rattle.std.specs.Prelude.{ℕ, ◌<◌, List, [], ◌∷◌, length, Option, Some, None}
 use Rattle.js_value.specs.Value.{Value, Object}
-use Rattle.js_value.specs.Store.{Content, Data, Accessor, Property, PromiseState, Pending, Fulfilled, Rejected, Reaction, Class, Ordinary, Array, ScriptFunction, BuiltInFunction, ResolveFunction, RejectFunction, Error, Promise, ObjectRecord, CellRecord, Thing, AnObject, ACell, AMark, Store, object_in, cell_in}
+use Rattle.js_value.specs.Store.{Content, Data, Accessor, Property, PromiseState, Pending, Fulfilled, Rejected, Reaction, Class, ScriptFunction, ResolveFunction, RejectFunction, Promise, ObjectRecord, Thing, AnObject, ACell, AMark, Store, object_in, cell_in}
 use Rattle.js_value.specs.Order.{IsOrderly}
 
 -- ---- what speaks only of things below m
