@@ -6,7 +6,7 @@ use Rattle.js_value.specs.Value.{Value, Undefined, Null, Boolean, Number, String
 use Rattle.js_value.specs.Store.{Store, Property, Content, Data, Accessor, Class, Array, ObjectRecord, own_property, with_property, without_property, with_string, with_length, is_length_of, put_name, length_name, length_entry, strings}
 use Rattle.js_value.specs.WellFormed.{IsValueBelow, IfValueBelow, IsContentBelow, ArePropertiesBelow, IsClassBelow, IsObjectBelow}
 use Rattle.js_value.proofs.Below.{put_index_properties, put_name_properties, removed_properties, found_properties, append_properties}
-use Rattle.es_model.specs.InternalMethods.{PropertyDescriptor, Outcome, refused, unchanged, wrote, validate_and_apply_property_descriptor, ordinary_define_own_property, new_property, new_content, applied, applied_content, forbidden, has_fields, is_accessor_descriptor, is_data_descriptor, length_of_value, lowest_length, elements_below, lowered, set_length_to, length_set_by, array_set_length, raised, array_define_own_property, define_by_class, define_own_property, ordinary_delete, delete_own_property, prevent_extensions, fixed_content, all_fixed, fixed_class, freeze, set_prototype_of, same_prototype, on_chain, longest, Method, DefineOwnProperty, Delete, PreventExtensions, SetPrototypeOf, Freeze, apply_method}
+use Rattle.es_model.specs.InternalMethods.{PropertyDescriptor, Outcome, refused, unchanged, wrote, validate_and_apply_property_descriptor, ordinary_define_own_property, new_property, new_content, applied, applied_content, forbidden, has_fields, is_accessor_descriptor, is_data_descriptor, length_of_value, lowest_length, elements_below, lowered, set_length_to, length_set_by, array_set_length, raised, array_define_own_property, define_by_class, is_refused, define_own_property, ordinary_delete, delete_own_property, prevent_extensions, fixed_content, all_fixed, fixed_class, freeze, set_prototype_of, same_prototype, on_chain, longest, Method, DefineOwnProperty, Delete, PreventExtensions, SetPrototypeOf, Freeze, apply_method}
 use Rattle.es_model.specs.Laws.{IsDescriptorBelow, IsMethodBelow}
 
 module _ (m : ℕ) where
@@ -157,7 +157,7 @@ module _ (m : ℕ) where
 
   pub method_below : (method : Method) (s : Store) (n : ℕ) (o : ObjectRecord) → IsMethodBelow m method → IsObjectBelow m o → Leaves (apply_method method s n o)
   unfolding apply_method define_own_property delete_own_property prevent_extensions freeze set_prototype_of
-  method_below (DefineOwnProperty key d) s n o b h = cond_leaves (is_index key && is_accessor_descriptor d) refused (define_by_class o.class o key d) tt (class_define_below o.class o key d h b.1)
+  method_below (DefineOwnProperty key d) s n o b h = cond_leaves (is_refused key d) refused (define_by_class o.class o key d) tt (class_define_below o.class o key d h b.1)
   method_below (Delete key) s n o b h = delete_below o key (own_property o key) h
   method_below PreventExtensions s n o b h = record { class = h.class; prototype = h.prototype; indexed = h.indexed; named = h.named }
   method_below (SetPrototypeOf v) s n o b h =

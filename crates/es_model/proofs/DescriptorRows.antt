@@ -101,3 +101,8 @@ nearly_frozen : is_frozen nearly ∷ is_frozen (record (array_of ((0, data_of on
     ≡ false ∷ true ∷ true ∷ false ∷ []
 unfolding computing one data_of nearly
 nearly_frozen = refl
+
+-- a descriptor of both kinds is refused
+mixed : defined (data_of one true true true) (record (with_get one) { value = Some one }) ≡ refused
+unfolding computing one with_get holder defined data_of
+mixed = refl

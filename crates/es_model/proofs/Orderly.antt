@@ -8,7 +8,7 @@ use Rattle.js_value.specs.Store.{Store, Property, Data, Class, Array, ObjectReco
 use Rattle.js_value.specs.Order.{IsKey, AllAbove, AllBelow, Ascending, Distinct, NoIndexText, NoLength, IsOrderly}
 use Rattle.js_value.proofs.Entries.{put_name_distinct, put_name_no_index, found-put_name, removed_none, removed_distinct, removed_no_index, all_below_more, put_index_below, put_index_ascending, removed_below, removed_ascending, same_text_sym}
 use Rattle.es_model.specs.Equality.{same_bool}
-use Rattle.es_model.specs.InternalMethods.{PropertyDescriptor, Outcome, refused, unchanged, wrote, validate_and_apply_property_descriptor, ordinary_define_own_property, new_property, new_content, applied, differs, forbidden_content, forbidden, has_fields, is_accessor_descriptor, is_data_descriptor, lowest_length, elements_below, lowered, set_length_to, length_set_by, array_set_length, raised, array_define_own_property, define_by_class, define_own_property, ordinary_delete, delete_own_property, prevent_extensions, fixed_property, all_fixed, fixed_class, freeze, set_prototype_of, same_prototype, on_chain, longest, Method, DefineOwnProperty, Delete, PreventExtensions, SetPrototypeOf, Freeze, apply_method}
+use Rattle.es_model.specs.InternalMethods.{PropertyDescriptor, Outcome, refused, unchanged, wrote, validate_and_apply_property_descriptor, ordinary_define_own_property, new_property, new_content, applied, differs, forbidden_content, forbidden, has_fields, is_accessor_descriptor, is_data_descriptor, lowest_length, elements_below, lowered, set_length_to, length_set_by, array_set_length, raised, array_define_own_property, define_by_class, is_refused, define_own_property, ordinary_delete, delete_own_property, prevent_extensions, fixed_property, all_fixed, fixed_class, freeze, set_prototype_of, same_prototype, on_chain, longest, Method, DefineOwnProperty, Delete, PreventExtensions, SetPrototypeOf, Freeze, apply_method}
 
 abbrev Written : (ObjectRecord → Type 0) → Outcome → Type 0
 Written P out = IfSome out.written P
@@ -370,7 +370,7 @@ parts_orderly o prototype extensible h = record {
 define_orderly : (o : ObjectRecord) (key : Key) (d : PropertyDescriptor) → IsKey key → IsOrderly o → Written IsOrderly (define_own_property o key d)
 unfolding define_own_property
 define_orderly o key d k h =
-    cond_written IsOrderly (is_index key && is_accessor_descriptor d) refused (define_by_class o.class o key d) tt
+    cond_written IsOrderly (is_refused key d) refused (define_by_class o.class o key d) tt
     (class_orderly o.prototype o.extensible o.indexed o.named o.class key d k h)
 
 delete_orderly : (o : ObjectRecord) (key : Key) (p : Option Property) → IsOrderly o → Written IsOrderly (ordinary_delete o key p)

@@ -4,7 +4,7 @@ use Rattle.std.specs.Option.{option_map_or}
 use Rattle.js_value.specs.Number.{text_of_number}
 use Rattle.js_value.specs.Value.{Value, Undefined, Null, Boolean, Number, String, Object, Text, same_text, Key, Index, Named, Numeral, is_index}
 use Rattle.js_value.specs.Store.{Property, Content, Data, Accessor, Class, Array, ObjectRecord, own_property, with_property, without_property, with_string, with_length, is_length_of, put_name, length_name}
-use Rattle.es_model.specs.InternalMethods.{PropertyDescriptor, Outcome, refused, unchanged, wrote, validate_and_apply_property_descriptor, ordinary_define_own_property, new_property, applied, forbidden, has_fields, is_accessor_descriptor, length_of_value, lowest_length, elements_below, lowered, set_length_to, length_set_by, array_set_length, raised, array_define_own_property, define_by_class, define_own_property, ordinary_delete, delete_own_property}
+use Rattle.es_model.specs.InternalMethods.{PropertyDescriptor, Outcome, refused, unchanged, wrote, validate_and_apply_property_descriptor, ordinary_define_own_property, new_property, applied, forbidden, has_fields, is_accessor_descriptor, length_of_value, lowest_length, elements_below, lowered, set_length_to, length_set_by, array_set_length, raised, array_define_own_property, define_by_class, is_refused, define_own_property, ordinary_delete, delete_own_property}
 
 module _ (prototype : Option ℕ) where
   abbrev Has : ObjectRecord → Type 0
@@ -105,7 +105,7 @@ module _ (prototype : Option ℕ) where
 
 pub define_prototype : (o : ObjectRecord) (key : Key) (d : PropertyDescriptor) → IfSome (define_own_property o key d).written (λ after. after.prototype ≡ o.prototype)
 unfolding define_own_property
-define_prototype o key d = cond_leaves o.prototype (is_index key && is_accessor_descriptor d) refused (define_by_class o.class o key d) tt (define_keeps o.prototype o.class o key d refl)
+define_prototype o key d = cond_leaves o.prototype (is_refused key d) refused (define_by_class o.class o key d) tt (define_keeps o.prototype o.class o key d refl)
 
 pub delete_prototype : (o : ObjectRecord) (key : Key) → IfSome (delete_own_property o key).written (λ after. after.prototype ≡ o.prototype)
 unfolding delete_own_property

@@ -175,9 +175,12 @@ abbrev pub define_by_class : Class → ObjectRecord → Key → PropertyDescript
 define_by_class (Array length writable) o key d = array_define_own_property o length writable key d
 define_by_class _ o key d = ordinary_define_own_property o key d
 
--- own rule: no accessor has an index for its key
+-- own rules: no accessor has an index for its key, and a descriptor with fields of both kinds is refused
+abbrev pub is_refused : Key → PropertyDescriptor → Bool
+is_refused key d = is_accessor_descriptor d && (is_index key || is_data_descriptor d)
+
 unfoldable pub define_own_property : ObjectRecord → Key → PropertyDescriptor → Outcome
-define_own_property o key d = cond (is_index key && is_accessor_descriptor d) refused (define_by_class o.class o key d)
+define_own_property o key d = cond (is_refused key d) refused (define_by_class o.class o key d)
 
 -- ---- [[Delete]]: OrdinaryDelete (10.1.10.1)
 

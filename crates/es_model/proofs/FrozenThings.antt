@@ -1,0 +1,108 @@
+-- Whatever a frozen object accepts leaves it as it is: it never needs a write.
+use Rattle.std.proofs.Common.{◌≡◌, ◌≢◌, ℕ, zero, suc, ◌+◌, ◌<◌, ◌≤◌, Bool, true, false, cond, not, ◌&&◌, ◌||◌, List, [], ◌∷◌, ◌++◌, nat_lt, nat_le, nat_eq, ◌==◌, ℤ, pos, negsuc, arith, refl, sym, ap, ◌∙◌, subst, Option, Some, None, IfSome, option_map, unwrap_or, int_eq, inl, inr, ◌⊎◌, ap₂}
+use Rattle.std.specs.Option.{option_map_or}
+use Rattle.std.proofs.lemmas.Bool.Decides.{nat_tests, Decides-int_eq}
+use Rattle.js_value.specs.Number.{text_of_number}
+use Rattle.js_value.specs.Value.{Value, Undefined, Null, Boolean, Number, String, Object, Text, same_text, Key, Index, Named, Numeral, is_index, text_of_key}
+use Rattle.js_value.specs.Store.{Store, Property, Content, Data, Accessor, Class, Ordinary, Array, ScriptFunction, BuiltInFunction, ResolveFunction, RejectFunction, Error, Promise, ObjectRecord, own_property, with_property, with_string, with_length, is_length_of, put_name, put_index, found, length_name, length_property, length_entry, strings, is_frozen, are_fixed, is_fixed, is_fixed_content}
+use Rattle.js_value.specs.Order.{IsOrderly, Ascending, AllAbove, AllBelow, FitsLength}
+use Rattle.js_value.proofs.Entries.{same_text_is}
+use Rattle.es_model.specs.Equality.{same_value, same_bool}
+use Rattle.es_model.specs.InternalMethods.{PropertyDescriptor, Outcome, refused, unchanged, wrote, differs, differs_value, is_accessor, forbidden_content, forbidden, new_property, new_content, applied, applied_content, has_fields, is_accessor_descriptor, is_data_descriptor, is_generic_descriptor, validate_and_apply_property_descriptor, ordinary_define_own_property, length_of_value, lowest_length, lowered, set_length_to, length_set_by, array_set_length, raised, array_define_own_property, define_by_class, is_refused, define_own_property, ordinary_delete, delete_own_property, prevent_extensions, fixed_content, fixed_property, all_fixed, fixed_class, freeze, set_prototype_of, same_prototype, on_chain, longest, Method, DefineOwnProperty, Delete, PreventExtensions, SetPrototypeOf, Freeze, apply_method}
+
+-- ---- tests
+
+both_true : (a b : Bool) → (a && b) ≡ true → (a ≡ true) × (b ≡ true)
+both_true true b e = (refl, e)
+both_true false b e = absurd (cc)
+
+both_false : (a b : Bool) → (a || b) ≡ false → (a ≡ false) × (b ≡ false)
+both_false false b e = (refl, e)
+both_false true b e = absurd (cc)
+
+not_true : (a : Bool) → not a ≡ true → a ≡ false
+not_true false e = refl
+not_true true e = absurd (cc)
+
+same_bool_is : (a b : Bool) → not (same_bool a b) ≡ false → a ≡ b
+same_bool_is true true e = refl
+same_bool_is false false e = refl
+same_bool_is true false e = absurd (cc)
+same_bool_is false true e = absurd (cc)
+
+not_false : (a : Bool) → not a ≡ false → a ≡ true
+not_false true e = refl
+not_false false e = absurd (cc)
+
+equal : (i j : ℕ) → (i == j) ≡ true → i ≡ j
+equal i j e = grind (arith, nat_tests)
+
+no_difference : (o : Option Bool) (b : Bool) → differs o b ≡ false → unwrap_or o b ≡ b
+no_difference None b e = refl
+no_difference (Some a) b e = same_bool_is a b e
+
+same_value_is : (x y : Value) → not (same_value x y) ≡ false → x ≡ y
+same_value_is Undefined Undefined e = refl
+same_value_is Null Null e = refl
+same_value_is (Boolean a) (Boolean b) e = ap Boolean (same_bool_is a b e)
+same_value_is (Number a) (Number b) e = ap Number ((Decides-int_eq a b).0 (not_false (int_eq a b) e))
+same_value_is (String a) (String b) e = ap String (same_text_is a b (not_false (same_text a b) e))
+same_value_is (Object a) (Object b) e = ap Object (equal a b (not_false (a == b) e))
+same_value_is Undefined _ e = absurd (cc)
+same_value_is Null _ e = absurd (cc)
+same_value_is (Boolean a) _ e = absurd (cc)
+same_value_is (Number a) _ e = absurd (cc)
+same_value_is (String a) _ e = absurd (cc)
+same_value_is (Object a) _ e = absurd (cc)
+
+no_other_value : (o : Option Value) (v : Value) → differs_value o v ≡ false → unwrap_or o v ≡ v
+no_other_value None v e = refl
+no_other_value (Some w) v e = same_value_is w v e
+
+-- ---- a property that is fixed and takes a descriptor is as it was
+
+-- a descriptor of one kind alone, which is generic or of the property's kind
+same_kind : (accessor plain is_accessor : Bool) → (accessor && plain) ≡ false → (not (not accessor && not plain) && not (same_bool accessor is_accessor)) ≡ false → (accessor ≡ is_accessor) ⊎ ((accessor ≡ false) × (plain ≡ false))
+same_kind true true k m e = absurd (cc)
+same_kind true false true m e = inl refl
+same_kind true false false m e = absurd (cc)
+same_kind false true true m e = absurd (cc)
+same_kind false true false m e = inl refl
+same_kind false false k m e = inr (refl, refl)
+
+content_same : (c : Content) (d : PropertyDescriptor) → is_fixed_content c ≡ true → (is_accessor_descriptor d && is_data_descriptor d) ≡ false
+    → (not (is_generic_descriptor d) && not (same_bool (is_accessor_descriptor d) (is_accessor c))) ≡ false → forbidden_content c d ≡ false → applied_content c d ≡ c
+content_same (Data v true) d f m k e = absurd (cc)
+content_same (Data v false) d f m k e =
+    let parts : (differs d.writable false ≡ false) × (differs_value d.value v ≡ false) = both_false (differs d.writable false) (differs_value d.value v) e in
+    by_kind (same_kind (is_accessor_descriptor d) (is_data_descriptor d) false m k)
+      (ap₂ Data (no_other_value d.value v parts.1) (no_difference d.writable false parts.0))
+  where
+    new : Content
+    new = Data (unwrap_or d.value v) (unwrap_or d.writable false)
+    by_kind : ((is_accessor_descriptor d ≡ false) ⊎ ((is_accessor_descriptor d ≡ false) × (is_data_descriptor d ≡ false))) → Data (unwrap_or d.value v) (unwrap_or d.writable false) ≡ Data v false → cond (is_accessor_descriptor d) (new_content d) (Data (unwrap_or d.value v) (unwrap_or d.writable false)) ≡ Data v false
+    by_kind (inl a) same = ap (λ b. cond b (new_content d) (Data (unwrap_or d.value v) (unwrap_or d.writable false))) a ∙ same
+    by_kind (inr a) same = ap (λ b. cond b (new_content d) (Data (unwrap_or d.value v) (unwrap_or d.writable false))) a.0 ∙ same
+content_same (Accessor g s) d f m k e =
+    let parts : (differs_value d.get g ≡ false) × (differs_value d.set s ≡ false) = both_false (differs_value d.get g) (differs_value d.set s) e in
+    by_kind (same_kind (is_accessor_descriptor d) (is_data_descriptor d) true m k)
+      (ap₂ Accessor (no_other_value d.get g parts.0) (no_other_value d.set s parts.1))
+  where
+    no_data : is_accessor_descriptor d ≡ true → is_data_descriptor d ≡ false
+    no_data a = ap (λ b. b && is_data_descriptor d) (sym a) ∙ m
+    by_kind : ((is_accessor_descriptor d ≡ true) ⊎ ((is_accessor_descriptor d ≡ false) × (is_data_descriptor d ≡ false))) → Accessor (unwrap_or d.get g) (unwrap_or d.set s) ≡ Accessor g s → cond (is_data_descriptor d) (new_content d) (Accessor (unwrap_or d.get g) (unwrap_or d.set s)) ≡ Accessor g s
+    by_kind (inl a) same = ap (λ b. cond b (new_content d) (Accessor (unwrap_or d.get g) (unwrap_or d.set s))) (no_data a) ∙ same
+    by_kind (inr a) same = ap (λ b. cond b (new_content d) (Accessor (unwrap_or d.get g) (unwrap_or d.set s))) a.1 ∙ same
+
+applied_same : (p : Property) (d : PropertyDescriptor) → is_fixed p ≡ true → (is_accessor_descriptor d && is_data_descriptor d) ≡ false → forbidden p d ≡ false → applied p d ≡ p
+applied_same p d f m e =
+    let fixed : (not p.configurable ≡ true) × (is_fixed_content p.content ≡ true) = both_true (not p.configurable) (is_fixed_content p.content) f in
+    let kind : Bool = not (is_generic_descriptor d) && not (same_bool (is_accessor_descriptor d) (is_accessor p.content)) in
+    let first = both_false ((differs d.configurable false || differs d.enumerable p.enumerable) || kind) (forbidden_content p.content d) e in
+    let second = both_false (differs d.configurable false || differs d.enumerable p.enumerable) kind first.0 in
+    let third = both_false (differs d.configurable false) (differs d.enumerable p.enumerable) second.0 in
+    let off : p.configurable ≡ false = not_true p.configurable fixed.0 in
+    let content : applied_content p.content d ≡ p.content = content_same p.content d fixed.1 m second.1 first.1 in
+    let enumerable : unwrap_or d.enumerable p.enumerable ≡ p.enumerable = no_difference d.enumerable p.enumerable third.1 in
+    let configurable : unwrap_or d.configurable p.configurable ≡ p.configurable = ap (unwrap_or d.configurable) off ∙ no_difference d.configurable false third.0 ∙ sym off in
+    λ i. record { content = content i; enumerable = enumerable i; configurable = configurable i }
