@@ -106,3 +106,71 @@ applied_same p d f m e =
     let enumerable : unwrap_or d.enumerable p.enumerable ≡ p.enumerable = no_difference d.enumerable p.enumerable third.1 in
     let configurable : unwrap_or d.configurable p.configurable ≡ p.configurable = ap (unwrap_or d.configurable) off ∙ no_difference d.configurable false third.0 ∙ sym off in
     λ i. record { content = content i; enumerable = enumerable i; configurable = configurable i }
+
+-- ---- putting a property where it is
+
+found_fixed : {K : Type 0} (is : K → Bool) (es : List (K × Property)) (p : Property) → are_fixed es ≡ true → found is es ≡ Some p → is_fixed p ≡ true
+found_fixed is [] p f e = absurd (cc)
+found_fixed is (x ∷ es) p f e =
+    let parts : (is_fixed x.1 ≡ true) × (are_fixed es ≡ true) = both_true (is_fixed x.1) (are_fixed es) f in
+    by_test (is x.0) e parts.0 (found_fixed is es p parts.1)
+  where
+    by_test : (b : Bool) → cond b (Some x.1) (found is es) ≡ Some p → is_fixed x.1 ≡ true → (found is es ≡ Some p → is_fixed p ≡ true) → is_fixed p ≡ true
+    by_test true q f rest = let here : x.1 ≡ p = cc in ap is_fixed (sym here) ∙ f
+    by_test false q f rest = rest q
+
+name_same : (t : Text) (p : Property) (es : List (Text × Property)) → found (same_text t) es ≡ Some p → put_name t p es ≡ es
+name_same t p [] e = absurd (cc)
+name_same t p (x ∷ es) e = by_test (same_text t x.0) refl e (name_same t p es)
+  where
+    by_test : (b : Bool) → same_text t x.0 ≡ b → cond b (Some x.1) (found (same_text t) es) ≡ Some p → (found (same_text t) es ≡ Some p → put_name t p es ≡ es) → cond b ((t, p) ∷ es) (x ∷ put_name t p es) ≡ x ∷ es
+    by_test true q f rest =
+        let value : p ≡ x.1 = cc in
+        let name : t ≡ x.0 = same_text_is t x.0 q in
+        λ i. (name i, value i) ∷ es
+    by_test false q f rest = ap (λ l. x ∷ l) (rest f)
+
+not_above : (i : ℕ) (p : Property) (es : List (ℕ × Property)) → AllAbove i es → found (nat_eq i) es ≡ Some p → ⊥
+not_above i p [] a e = absurd (cc)
+not_above i p (x ∷ es) a e = by_test (nat_eq i x.0) refl e (not_above i p es a.1)
+  where
+    by_test : (b : Bool) → nat_eq i x.0 ≡ b → cond b (Some x.1) (found (nat_eq i) es) ≡ Some p → (found (nat_eq i) es ≡ Some p → ⊥) → ⊥
+    by_test true q f rest = let same : i ≡ x.0 = equal i x.0 q in absurd (omega (arith, a.0))
+    by_test false q f rest = rest f
+
+index_same : (i : ℕ) (p : Property) (es : List (ℕ × Property)) → Ascending es → found (nat_eq i) es ≡ Some p → put_index i p es ≡ es
+index_same i p [] a e = absurd (cc)
+index_same i p (x ∷ es) a e = by_test (nat_lt i x.0) (i == x.0) refl refl e (index_same i p es a.1)
+  where
+    above_less : (j k : ℕ) (l : List (ℕ × Property)) → j < k → AllAbove k l → AllAbove j l
+    above_less j k [] lt h = tt
+    above_less j k (y ∷ l) lt h = (omega (arith, h.0), above_less j k l lt h.1)
+
+    by_test : (b c : Bool) → nat_lt i x.0 ≡ b → (i == x.0) ≡ c → cond c (Some x.1) (found (nat_eq i) es) ≡ Some p → (found (nat_eq i) es ≡ Some p → put_index i p es ≡ es) → cond b ((i, p) ∷ x ∷ es) (cond c ((i, p) ∷ es) (x ∷ put_index i p es)) ≡ x ∷ es
+    by_test true true q r f rest = absurd (grind (arith, nat_tests))
+    by_test true false q r f rest = absurd (not_above i p es (above_less i x.0 es (grind (arith, nat_tests)) a.0) f)
+    by_test false true q r f rest =
+        let value : p ≡ x.1 = cc in
+        let place : i ≡ x.0 = equal i x.0 r in
+        λ k. (place k, value k) ∷ es
+    by_test false false q r f rest = ap (λ l. x ∷ l) (rest f)
+
+-- a string that an object has
+string_same : (o : ObjectRecord) (t : Text) (p : Property) → found (same_text t) (strings o) ≡ Some p → with_string o t p ≡ o
+string_same o t p e = by_class o.class refl e
+  where
+    by_class : (c : Class) → o.class ≡ c → found (same_text t) (length_entry c ++ o.named) ≡ Some p → cond (is_length_of c t) (with_length o p.content) (record o { named = put_name t p o.named }) ≡ o
+    by_class (Array n w) q f = by_test (same_text t length_name) f
+      where
+        by_test : (b : Bool) → cond b (Some (length_property n w)) (found (same_text t) o.named) ≡ Some p → cond b (with_length o p.content) (record o { named = put_name t p o.named }) ≡ o
+        by_test true g =
+            let here : p ≡ length_property n w = cc in
+            ap (λ (x : Property). with_length o x.content) here ∙ ap (λ c. record o { class = c }) (sym q)
+        by_test false g = ap (λ l. record o { named = l }) (name_same t p o.named g)
+    by_class c q f = ap (λ l. record o { named = l }) (name_same t p o.named f)
+
+property_same : (o : ObjectRecord) (key : Key) (p : Property) → IsOrderly o → own_property o key ≡ Some p → with_property o key p ≡ o
+unfolding own_property with_property
+property_same o (Index i) p h e = ap (λ l. record o { indexed = l }) (index_same i p o.indexed h.indices e)
+property_same o (Named t) p h e = string_same o t p e
+property_same o (Numeral z) p h e = string_same o (text_of_number z) p e
