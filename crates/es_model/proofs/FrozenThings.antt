@@ -4,7 +4,7 @@ use Rattle.std.specs.Option.{option_map_or}
 use Rattle.std.proofs.lemmas.Bool.Decides.{nat_tests, Decides-int_eq}
 use Rattle.js_value.specs.Number.{text_of_number}
 use Rattle.js_value.specs.Value.{Value, Undefined, Null, Boolean, Number, String, Object, Text, same_text, Key, Index, Named, Numeral, is_index, text_of_key}
-use Rattle.js_value.specs.Store.{Store, Property, Content, Data, Accessor, Class, Ordinary, Array, ScriptFunction, BuiltInFunction, ResolveFunction, RejectFunction, Error, Promise, ObjectRecord, own_property, with_property, with_string, with_length, is_length_of, put_name, put_index, found, length_name, length_property, length_entry, strings, is_frozen, are_fixed, is_fixed, is_fixed_content}
+use Rattle.js_value.specs.Store.{Store, Property, Content, Data, Accessor, Class, Ordinary, Array, ScriptFunction, BuiltInFunction, ResolveFunction, RejectFunction, Error, Promise, ObjectRecord, own_property, with_property, without_property, with_string, with_length, is_length_of, put_name, put_index, found, length_name, length_property, length_entry, strings, is_frozen, are_fixed, is_fixed, is_fixed_content}
 use Rattle.js_value.specs.Order.{IsOrderly, Ascending, AllAbove, AllBelow, FitsLength}
 use Rattle.js_value.proofs.Entries.{same_text_is}
 use Rattle.es_model.specs.Equality.{same_value, same_bool}
@@ -174,3 +174,172 @@ unfolding own_property with_property
 property_same o (Index i) p h e = ap (λ l. record o { indexed = l }) (index_same i p o.indexed h.indices e)
 property_same o (Named t) p h e = string_same o t p e
 property_same o (Numeral z) p h e = string_same o (text_of_number z) p e
+
+-- ---- a frozen object
+
+below_found : (i n : ℕ) (p : Property) (es : List (ℕ × Property)) → AllBelow n es → found (nat_eq i) es ≡ Some p → i < n
+below_found i n p [] a e = absurd (cc)
+below_found i n p (x ∷ es) a e = by_test (nat_eq i x.0) refl e (below_found i n p es a.1)
+  where
+    by_test : (b : Bool) → nat_eq i x.0 ≡ b → cond b (Some x.1) (found (nat_eq i) es) ≡ Some p → (found (nat_eq i) es ≡ Some p → i < n) → i < n
+    by_test true q f rest = let same : i ≡ x.0 = equal i x.0 q in omega (arith, a.0)
+    by_test false q f rest = rest f
+
+fixed_append : {K : Type 0} (es fs : List (K × Property)) → are_fixed (es ++ fs) ≡ true → are_fixed fs ≡ true
+fixed_append [] fs f = f
+fixed_append (e ∷ es) fs f = fixed_append es fs (both_true (is_fixed e.1) (are_fixed (es ++ fs)) f).1
+
+fixed_same : {K : Type 0} (es : List (K × Property)) → are_fixed es ≡ true → all_fixed es ≡ es
+fixed_same [] f = refl
+fixed_same (e ∷ es) f =
+    let parts : (is_fixed e.1 ≡ true) × (are_fixed es ≡ true) = both_true (is_fixed e.1) (are_fixed es) f in
+    let fixed : (not e.1.configurable ≡ true) × (is_fixed_content e.1.content ≡ true) = both_true (not e.1.configurable) (is_fixed_content e.1.content) parts.0 in
+    let content : fixed_content e.1.content ≡ e.1.content = by_content e.1.content fixed.1 in
+    let off : false ≡ e.1.configurable = sym (not_true e.1.configurable fixed.0) in
+    ap₂ (λ p l. (e.0, p) ∷ l) (λ i. record { content = content i; enumerable = e.1.enumerable; configurable = off i }) (fixed_same es parts.1)
+  where
+    by_content : (c : Content) → is_fixed_content c ≡ true → fixed_content c ≡ c
+    by_content (Data v w) g = ap (Data v) (sym (not_true w g))
+    by_content (Accessor g s) h = refl
+
+module _ (o : ObjectRecord) (h : IsOrderly o) (f : is_frozen o ≡ true) where
+  parts : (not o.extensible && are_fixed o.indexed ≡ true) × (are_fixed (strings o) ≡ true)
+  unfolding is_frozen
+  parts = both_true (not o.extensible && are_fixed o.indexed) (are_fixed (strings o)) f
+
+  shut : o.extensible ≡ false
+  shut = not_true o.extensible (both_true (not o.extensible) (are_fixed o.indexed) parts.0).0
+
+  indexed_fixed : are_fixed o.indexed ≡ true
+  indexed_fixed = (both_true (not o.extensible) (are_fixed o.indexed) parts.0).1
+
+  own_fixed : (key : Key) (p : Property) → own_property o key ≡ Some p → is_fixed p ≡ true
+  unfolding own_property
+  own_fixed (Index i) p e = found_fixed (nat_eq i) o.indexed p indexed_fixed e
+  own_fixed (Named t) p e = found_fixed (same_text t) (strings o) p parts.1 e
+  own_fixed (Numeral z) p e = found_fixed (same_text (text_of_number z)) (strings o) p parts.1 e
+
+  -- what is written is the object itself
+  abbrev Leaves : Outcome → Type 0
+  Leaves out = IfSome out.written (λ x. x ≡ o)
+
+  cond_leaves : (b : Bool) (x y : Outcome) → Leaves x → Leaves y → Leaves (cond b x y)
+  cond_leaves true x y p q = p
+  cond_leaves false x y p q = q
+
+  abbrev IsOfOneKind : PropertyDescriptor → Type 0
+  IsOfOneKind d = (is_accessor_descriptor d && is_data_descriptor d) ≡ false
+
+  validated_frozen : (key : Key) (d : PropertyDescriptor) (current : Option Property) → own_property o key ≡ current → IsOfOneKind d → Leaves (validate_and_apply_property_descriptor o key d current)
+  unfolding validate_and_apply_property_descriptor
+  validated_frozen key d None e m = subst (λ b. Leaves (cond b (wrote (with_property o key (new_property d))) refused)) (sym shut) tt
+  validated_frozen key d (Some p) e m = cond_leaves (has_fields d) (cond (not p.configurable && forbidden p d) refused (wrote (with_property o key (applied p d)))) unchanged (by_test (not p.configurable && forbidden p d) refl) tt
+    where
+      fixed : is_fixed p ≡ true
+      fixed = own_fixed key p e
+      off : p.configurable ≡ false
+      off = not_true p.configurable (both_true (not p.configurable) (is_fixed_content p.content) fixed).0
+      by_test : (b : Bool) → (not p.configurable && forbidden p d) ≡ b → Leaves (cond b refused (wrote (with_property o key (applied p d))))
+      by_test true q = tt
+      by_test false q = ap (with_property o key) (applied_same p d fixed m (ap (λ c. not c && forbidden p d) (sym off) ∙ q)) ∙ property_same o key p h e
+
+  ordinary_frozen : (key : Key) (d : PropertyDescriptor) → IsOfOneKind d → Leaves (ordinary_define_own_property o key d)
+  ordinary_frozen key d m = validated_frozen key d (own_property o key) refl m
+
+  -- ---- arrays
+
+  length_fixed : (n : ℕ) (w : Bool) → o.class ≡ Array n w → w ≡ false
+  length_fixed n w e =
+      let all : are_fixed ((length_name, length_property n w) ∷ o.named) ≡ true = ap (λ c. are_fixed (length_entry c ++ o.named)) (sym e) ∙ parts.1 in
+      not_true w (both_true (is_fixed (length_property n w)) (are_fixed o.named) all).0
+
+  set_length_frozen : (n : ℕ) (w : Bool) (d : PropertyDescriptor) (new : ℕ) → w ≡ false → IsOfOneKind d → Leaves (set_length_to o n w d new)
+  set_length_frozen n w d new e m =
+      cond_leaves (nat_le n new) (ordinary_define_own_property o (Named length_name) d) _ (ordinary_frozen (Named length_name) d m)
+        (subst (λ b. Leaves (cond (b && (ordinary_define_own_property o (Named length_name) d).answer) (lowered o n new (lowest_length new o.indexed) (unwrap_or d.writable true)) refused)) (sym e) tt)
+
+  length_set_frozen : (n : ℕ) (w : Bool) (d : PropertyDescriptor) (v : Option Value) → w ≡ false → IsOfOneKind d → Leaves (length_set_by o n w d v)
+  length_set_frozen n w d None e m = ordinary_frozen (Named length_name) d m
+  length_set_frozen n w d (Some v) e m = by_length (length_of_value v)
+    where
+      by_length : (k : Option ℕ) → Leaves (option_map_or (set_length_to o n w d) k refused)
+      by_length None = tt
+      by_length (Some k) = set_length_frozen n w d k e m
+
+  raised_same : (i n : ℕ) (w : Bool) → i < n → raised i (Array n w) o ≡ o
+  raised_same i n w l = by_test (nat_lt i n) refl
+    where
+      by_test : (b : Bool) → nat_lt i n ≡ b → cond b o (record o { class = Array (suc i) w }) ≡ o
+      by_test true q = refl
+      by_test false q = absurd (grind (arith, nat_tests))
+
+  index_frozen : (i n : ℕ) (w : Bool) (d : PropertyDescriptor) → o.class ≡ Array n w → IsOfOneKind d → IfSome (option_map (raised i (Array n w)) (ordinary_define_own_property o (Index i) d).written) (λ x. x ≡ o)
+  unfolding own_property
+  index_frozen i n w d e m = by_own (found (nat_eq i) o.indexed) refl
+    where
+      outcome : Option Property → Outcome
+      outcome current = validate_and_apply_property_descriptor o (Index i) d current
+
+      none_written : (b : Bool) → b ≡ false → IfSome (option_map (raised i (Array n w)) (cond b (wrote (with_property o (Index i) (new_property d))) refused).written) (λ x. x ≡ o)
+      none_written b q = subst (λ b. IfSome (option_map (raised i (Array n w)) (cond b (wrote (with_property o (Index i) (new_property d))) refused).written) (λ x. x ≡ o)) (sym q) tt
+
+      below : (p : Property) → found (nat_eq i) o.indexed ≡ Some p → i < n
+      below p q = below_found i n p o.indexed (subst (λ c. FitsLength c o.indexed) e h.length).1 q
+
+      mapped : (x : Option ObjectRecord) → i < n → IfSome x (λ y. y ≡ o) → IfSome (option_map (raised i (Array n w)) x) (λ y. y ≡ o)
+      mapped None l g = tt
+      mapped (Some y) l g = ap (raised i (Array n w)) g ∙ raised_same i n w l
+
+      by_own : (current : Option Property) → found (nat_eq i) o.indexed ≡ current → IfSome (option_map (raised i (Array n w)) (validate_and_apply_property_descriptor o (Index i) d current).written) (λ x. x ≡ o)
+      by_own None q = unfold validate_and_apply_property_descriptor in none_written o.extensible shut
+      by_own (Some p) q = mapped (validate_and_apply_property_descriptor o (Index i) d (Some p)).written (below p q) (validated_frozen (Index i) d (Some p) q m)
+
+  array_frozen : (n : ℕ) (w : Bool) (key : Key) (d : PropertyDescriptor) → o.class ≡ Array n w → IsOfOneKind d → Leaves (array_define_own_property o n w key d)
+  array_frozen n w (Index i) d e m =
+      cond_leaves (nat_le n i && not w) refused _ tt (subst (λ c. IfSome (option_map (raised i c) (ordinary_define_own_property o (Index i) d).written) (λ x. x ≡ o)) (sym e) (index_frozen i n w d e m))
+  array_frozen n w (Named t) d e m = cond_leaves (same_text t length_name) (array_set_length o n w d) (ordinary_define_own_property o (Named t) d) (length_set_frozen n w d d.value (length_fixed n w e) m) (ordinary_frozen (Named t) d m)
+  array_frozen n w (Numeral z) d e m = cond_leaves (same_text (text_of_number z) length_name) (array_set_length o n w d) (ordinary_define_own_property o (Numeral z) d) (length_set_frozen n w d d.value (length_fixed n w e) m) (ordinary_frozen (Numeral z) d m)
+
+  class_frozen : (c : Class) (key : Key) (d : PropertyDescriptor) → o.class ≡ c → IsOfOneKind d → Leaves (define_by_class c o key d)
+  class_frozen (Array n w) key d e m = array_frozen n w key d e m
+  class_frozen c key d e m = ordinary_frozen key d m
+
+  -- ---- the methods
+
+  one_kind : (a b c : Bool) → (a && (b || c)) ≡ false → (a && c) ≡ false
+  one_kind true true c q = absurd (cc)
+  one_kind true false c q = q
+  one_kind false b c q = refl
+
+  define_frozen : (key : Key) (d : PropertyDescriptor) → Leaves (define_own_property o key d)
+  unfolding define_own_property
+  define_frozen key d = by_test (is_refused key d) refl
+    where
+      by_test : (b : Bool) → is_refused key d ≡ b → Leaves (cond b refused (define_by_class o.class o key d))
+      by_test true q = tt
+      by_test false q = class_frozen o.class key d refl (one_kind (is_accessor_descriptor d) (is_index key) (is_data_descriptor d) q)
+
+  delete_frozen : (key : Key) (p : Option Property) → own_property o key ≡ p → Leaves (ordinary_delete o key p)
+  delete_frozen key None e = tt
+  delete_frozen key (Some p) e =
+      let off : p.configurable ≡ false = not_true p.configurable (both_true (not p.configurable) (is_fixed_content p.content) (own_fixed key p e)).0 in
+      subst (λ b. Leaves (cond b (wrote (without_property o key)) refused)) (sym off) tt
+
+  class_same : (c : Class) → o.class ≡ c → fixed_class c ≡ c
+  class_same (Array n w) e = ap (Array n) (sym (length_fixed n w e))
+  class_same c e = refl
+
+  pub frozen_stays : (m : Method) (s : Store) (n : ℕ) → IfSome (apply_method m s n o).written (λ x. x ≡ o)
+  unfolding apply_method delete_own_property prevent_extensions set_prototype_of freeze
+  frozen_stays (DefineOwnProperty key d) s n = define_frozen key d
+  frozen_stays (Delete key) s n = delete_frozen key (own_property o key) refl
+  frozen_stays PreventExtensions s n = ap (λ b. record o { extensible = b }) (sym shut)
+  frozen_stays (SetPrototypeOf v) s n =
+      cond_leaves (same_prototype v o.prototype) unchanged _ tt
+        (subst (λ b. Leaves (cond (not b || on_chain longest s n v) refused (wrote (record o { prototype = v })))) (sym shut) tt)
+  frozen_stays Freeze s n =
+      let class : fixed_class o.class ≡ o.class = class_same o.class refl in
+      let open_ : false ≡ o.extensible = sym shut in
+      let indexed : all_fixed o.indexed ≡ o.indexed = fixed_same o.indexed indexed_fixed in
+      let named : all_fixed o.named ≡ o.named = fixed_same o.named (fixed_append (length_entry o.class) o.named parts.1) in
+      λ i. record { class = class i; prototype = o.prototype; extensible = open_ i; indexed = indexed i; named = named i }
