@@ -115,7 +115,7 @@ run_well c well (Give v) s h b = (h, le_refl (length s.world.store), b)
 run_well c well (Throw v) s h b = (h, le_refl (length s.world.store), b)
 run_well c well (Halt stop) s h b = h
 run_well c well (Turn p) s h b = spent_well s.meter s (run c p) h (λ n. run_well c well p (record s { meter = n }) h b)
-run_well c well (Ask q k) s h b = run_well c well (k (reply q s.world)) s h (b.1 (reply q s.world) (reply_well q s.world h b.0))
+run_well c well (Ask q k) s h b = run_well c well (k (reply q s.world)) s h (b.1 (length s.world.store) (le_refl (length s.world.store)) (reply q s.world) (reply_well q s.world h b.0))
 run_well c well (Do d k) s h b =
     happened_well (perform d s.world) s (λ a. run c (k a)) (λ n a. IsAnswerBelow n d a) h (perform_grows d s.world) (perform_well d s.world h b.0)
     (λ a v w l y. run_well c well (k a) (with_world s v) w (b.1 (length v.store) l a y))

@@ -39,12 +39,12 @@ inherited place receiver key k = Ask (TheIntrinsic place) (λ p. Ask (ThePropert
 
 -- StringGetOwnProperty (10.4.3.5): the units by their index, and `length`
 pub data StringProperty : Type 0 where
-  Unit : ℕ → StringProperty
+  AUnit : ℕ → StringProperty
   Length : StringProperty
   Inherits : StringProperty
 
 abbrev pub string_unit : Option ℕ → StringProperty
-string_unit (Some u) = Unit u
+string_unit (Some u) = AUnit u
 string_unit None = Inherits
 
 abbrev pub string_property : Text → Key → StringProperty
@@ -52,7 +52,7 @@ string_property t (Index i) = string_unit (slice_get t i)
 string_property t key = cond (same_text (text_of_key key) length_name) Length Inherits
 
 abbrev pub string_value : Text → StringProperty → Key → (Value → Act) → Act
-string_value t (Unit u) key k = make_text (u ∷ []) k
+string_value t (AUnit u) key k = make_text (u ∷ []) k
 string_value t Length key k = k (Number (pos (length t)))
 string_value t Inherits key k = inherited string_prototype (String t) key k
 
