@@ -17,16 +17,16 @@ use Rattle.es_model.specs.Conversions.{Hint, DefaultHint, NumberHint, StringHint
 use Rattle.es_model.specs.Laws.{IsDescriptorBelow, IsMethodBelow, IsJobBelow, IsDeedBelow, IsStepBelow, IsReplyBelow, IsQuestionBelow, IsAnswerBelow, AreReactionAnswersBelow, IsJobAnswerBelow, IsCompletionBelow, IsActBelow}
 
 -- what comes after, with something that stands by then
-abbrev Later : {T : Type 0} → ℕ → (ℕ → T → Type 0) → (T → Act) → Type 0
+abbrev pub Later : {T : Type 0} → ℕ → (ℕ → T → Type 0) → (T → Act) → Type 0
 Later {T} m B k = (n : ℕ) → m ≤ n → (x : T) → B n x → IsActBelow n (k x)
 
-abbrev Any : {T : Type 0} → ℕ → T → Type 0
+abbrev pub Any : {T : Type 0} → ℕ → T → Type 0
 Any n x = Unit {0}
 
-abbrev IsNumberBelow : ℕ → ℕ → Type 0
+abbrev pub IsNumberBelow : ℕ → ℕ → Type 0
 IsNumberBelow n x = x < n
 
-later_more : {T : Type 0} (m n : ℕ) (B : ℕ → T → Type 0) (k : T → Act) → m ≤ n → Later m B k → Later n B k
+pub later_more : {T : Type 0} (m n : ℕ) (B : ℕ → T → Type 0) (k : T → Act) → m ≤ n → Later m B k → Later n B k
 later_more m n B k le h = λ i l x b. h i (le_trans le l) x b
 
 method_more : (m n : ℕ) → m ≤ n → (d : Method) → IsMethodBelow m d → IsMethodBelow n d
@@ -107,7 +107,7 @@ completed_below m (Call c t vs x g) f h k = (h.0, h.1, h.2, h.3, λ n l v b. eit
     either n l (ThrowCompletion w) b next = k n l (ThrowCompletion w) b
 completed_below m (Try c t vs x g) f h k = (h.0, h.1, h.2, h.3, λ n l v b. completed_below n (g v) f (h.4 n l v b) (later_more m n IsCompletionBelow f l k))
 
-cond_below : (m : ℕ) (b : Bool) (p q : Act) → IsActBelow m p → IsActBelow m q → IsActBelow m (cond b p q)
+pub cond_below : (m : ℕ) (b : Bool) (p q : Act) → IsActBelow m p → IsActBelow m q → IsActBelow m (cond b p q)
 cond_below m true p q h g = h
 cond_below m false p q h g = g
 
