@@ -2,7 +2,7 @@
 use Rattle.std.proofs.Common.{◌≡◌, ◌≢◌, ℕ, zero, suc, ◌+◌, ◌<◌, ◌≤◌, Bool, true, false, cond, not, ◌&&◌, ◌||◌, List, [], ◌∷◌, ◌++◌, nat_lt, nat_le, nat_eq, ◌==◌, ℤ, pos, negsuc, arith, refl, sym, ap, ◌∙◌, subst, Option, Some, None, IfSome, option_map, unwrap_or, int_eq, inl, inr, ◌⊎◌, ap₂}
 use Rattle.std.specs.Option.{option_map_or}
 use Rattle.std.proofs.lemmas.Bool.Decides.{nat_tests, Decides-int_eq}
-use Rattle.js_value.specs.Number.{text_of_number}
+use Rattle.js_value.specs.NumberText.{text_of_number}
 use Rattle.js_value.specs.Value.{Value, Undefined, Null, Boolean, Number, String, Object, Text, same_text, Key, Index, Named, Numeral, is_index, text_of_key}
 use Rattle.js_value.specs.Store.{Store, Property, Content, Data, Accessor, Class, Ordinary, Array, ScriptFunction, BuiltInFunction, ResolveFunction, RejectFunction, Error, Promise, ObjectRecord, own_property, with_property, without_property, with_string, with_length, is_length_of, put_name, put_index, found, length_name, length_property, length_entry, strings, is_frozen, are_fixed, is_fixed, is_fixed_content}
 use Rattle.js_value.specs.Order.{IsOrderly, Ascending, AllAbove, AllBelow, FitsLength}

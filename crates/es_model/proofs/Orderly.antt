@@ -2,7 +2,7 @@
 use Rattle.std.proofs.Common.{◌≡◌, ℕ, suc, ◌<◌, ◌≤◌, Bool, true, false, cond, not, ◌&&◌, ◌||◌, nat_eq, List, [], ◌∷◌, ◌++◌, nat_lt, nat_le, ◌==◌, ℤ, pos, negsuc, arith, refl, sym, ap, ◌∙◌, subst, Option, Some, None, IfSome, option_map, unwrap_or}
 use Rattle.std.specs.Option.{option_map_or}
 use Rattle.std.proofs.lemmas.Bool.Decides.{nat_tests}
-use Rattle.js_value.specs.Number.{index_of_text, text_of_number}
+use Rattle.js_value.specs.NumberText.{index_of_text, text_of_number}
 use Rattle.js_value.specs.Value.{Value, Undefined, Null, Boolean, Number, String, Object, Text, same_text, Key, Index, Named, Numeral, is_index}
 use Rattle.js_value.specs.Store.{Store, Property, Data, Class, Array, ObjectRecord, own_property, with_property, without_property, with_string, with_length, is_length_of, put_name, put_index, removed, found, length_name, length_property, length_entry, strings}
 use Rattle.js_value.specs.Order.{IsKey, AllAbove, AllBelow, Ascending, Distinct, NoIndexText, NoLength, IsOrderly}

@@ -1,7 +1,7 @@
 -- Type conversion (ECMA-262 7.1), and the equality that converts (7.2.14).
 use Rattle.std.specs.Prelude.{ℕ, zero, suc, Bool, true, false, cond, [], ℤ, pos, Option, Some, None, codes}
 use Rattle.js_value.specs.Value.{Value, Undefined, Null, Boolean, Number, String, Object, is_object, Text, Key, Named, key_of_text, key_of_number}
-use Rattle.js_value.specs.Number.{number_of_text, text_of_number}
+use Rattle.js_value.specs.NumberText.{number_of_text, text_of_number}
 use Rattle.es_model.specs.Equality.{is_strictly_equal}
 use Rattle.es_model.specs.Messages.{NumberOutOfRange, NoPrimitiveValue, PrimitiveExpected}
 use Rattle.es_model.specs.Act.{Act, Call}

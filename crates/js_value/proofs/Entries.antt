@@ -2,7 +2,7 @@
 use Rattle.std.proofs.Common.{◌≡◌, ℕ, ◌<◌, ◌≤◌, Bool, true, false, cond, List, [], ◌∷◌, nat_lt, ◌==◌, arith, refl, sym, ap, ◌∙◌, subst, Some, None}
 use Rattle.std.proofs.lemmas.Bool.Decides.{nat_tests}
 use Rattle.std.proofs.lemmas.Slice.Eq.{bytes_eq-Decides}
-use Rattle.js_value.specs.Number.{index_of_text}
+use Rattle.js_value.specs.NumberText.{index_of_text}
 use Rattle.js_value.specs.Value.{Text, same_text}
 use Rattle.js_value.specs.Store.{found, removed, put_name, put_index}
 use Rattle.js_value.specs.Order.{AllAbove, AllBelow, Ascending, Distinct, NoIndexText}

@@ -1,6 +1,6 @@
 -- Texts as numbers and as keys, and the order of own keys, by computing.
 use Rattle.std.proofs.Common.{◌≡◌, pos, negsuc, true, [], ◌∷◌, refl, Some, None, codes}
-use Rattle.js_value.specs.Number.{number_of_text}
+use Rattle.js_value.specs.NumberText.{number_of_text}
 use Rattle.js_value.specs.Value.{Value, Undefined, Index, Named, Numeral, key_of_text, key_of_number}
 use Rattle.js_value.specs.Store.{ObjectRecord, Array, Property, Data, own_keys, with_property, object_size}
 

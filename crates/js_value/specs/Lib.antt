@@ -1,4 +1,4 @@
-pub mod Number
+pub mod NumberText
 pub mod Order
 pub mod Store
 pub mod Value

@@ -1,6 +1,6 @@
 -- The order of own keys, and the store's other invariants.
 use Rattle.std.specs.Prelude.{◌≡◌, ℕ, ◌<◌, List, [], ◌∷◌, None}
-use Rattle.js_value.specs.Number.{text_of_number, index_of_text}
+use Rattle.js_value.specs.NumberText.{text_of_number, index_of_text}
 use Rattle.js_value.specs.Value.{Text, same_text, Key, Index, Named, Numeral}
 use Rattle.js_value.specs.Store.{Class, Array, ObjectRecord, found, length_name}
 

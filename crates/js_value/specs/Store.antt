@@ -1,7 +1,7 @@
 -- The store: a list of things, each named by its place in it.
 use Rattle.std.specs.Prelude.{ℕ, ◌+◌, ◌*◌, Bool, true, false, cond, not, ◌&&◌, List, [], ◌∷◌, ◌++◌, map, length, pos, nat_lt, nat_eq, ◌==◌, Option, Some, None, slice_get, set, codes}
 use Rattle.js_value.specs.Value.{Value, Undefined, Number, Text, same_text, Key, Index, Named, Numeral}
-use Rattle.js_value.specs.Number.{text_of_number}
+use Rattle.js_value.specs.NumberText.{text_of_number}
 
 -- ---- properties (ECMA-262 6.1.7.1)
 

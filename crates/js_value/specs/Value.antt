@@ -1,6 +1,6 @@
 -- The language values of the profile (ECMA-262 6.1), and property keys (6.1.7).
 use Rattle.std.specs.Prelude.{ℕ, Bool, true, false, cond, List, ℤ, pos, nat_lt, Option, Some, None, bytes_eq}
-use Rattle.js_value.specs.Number.{text_of_number, index_of_text}
+use Rattle.js_value.specs.NumberText.{text_of_number, index_of_text}
 
 -- a text is a list of 16-bit units
 abbrev pub Text : Type 0
