@@ -1,20 +1,19 @@
 -- The operations speak only of things that stand, where what they are handed does.
-use Rattle.std.proofs.Common.{◌≡◌, ℕ, zero, suc, ◌<◌, ◌≤◌, Bool, true, false, cond, not, ◌&&◌, ◌||◌, List, [], ◌∷◌, ◌++◌, length, ℤ, pos, negsuc, nat_lt, arith, refl, Option, Some, None, IfSome, le_refl, le_trans, slice_get, codes}
-use Rattle.js_value.specs.Value.{Value, Undefined, Null, Boolean, Number, String, Object, is_object, Text, Key, Index, Named, Numeral, is_index, text_of_key, same_text}
-use Rattle.js_value.specs.Store.{ObjectRecord, CellRecord, Property, Content, Data, Accessor, Reaction, PromiseState, Pending, Fulfilled, Rejected, Class, Ordinary, Array, ScriptFunction, BuiltInFunction, ResolveFunction, RejectFunction, Error, Promise, is_length_of, callable_class, length_name}
-use Rattle.js_value.specs.Order.{IsKey, IsOrderly}
-use Rattle.js_value.specs.WellFormed.{IsValueBelow, IfValueBelow, AreValuesBelow, IsContentBelow, IsClassBelow, IsStateBelow, IsReactionBelow, AreReactionsBelow, IsObjectBelow}
-use Rattle.js_value.proofs.Below.{value_more, values_more, if_value_more, content_more, reaction_more, reactions_more, state_more, thing_more, if_number_more}
-use Rattle.es_model.specs.Equality.{same_value}
-use Rattle.es_model.specs.Messages.{Message, StringTooLong, NumberOutOfRange, NoPrimitiveValue, PrimitiveExpected, InvalidArrayLength, NoProperties, NotWritable, NotDefinable, NotDeletable, AccessorOnIndex, NotInitialised, AssignmentToConstant, ResolvedWithItself, kind_of_message, text_of_message}
+use Rattle.std.proofs.Common.{ℕ, ◌<◌, ◌≤◌, Bool, true, false, cond, [], ◌∷◌, length, ℤ, pos, nat_lt, arith, refl, Option, Some, None, IfSome, le_refl, le_trans, codes}
+use Rattle.js_value.specs.Value.{Value, Undefined, Null, Boolean, Number, String, Object, is_object, Text, Key, Named}
+use Rattle.js_value.specs.Store.{Property, Content, Data, Accessor, callable_class}
+use Rattle.js_value.specs.Order.{IsOrderly}
+use Rattle.js_value.specs.WellFormed.{IsValueBelow, IsContentBelow, IsObjectBelow}
+use Rattle.js_value.proofs.Below.{value_more, values_more, if_value_more, content_more, reaction_more, state_more, thing_more, if_number_more}
+use Rattle.es_model.specs.Messages.{Message, StringTooLong, NumberOutOfRange, NoPrimitiveValue, NoProperties, text_of_message}
 use Rattle.es_model.specs.State.{Job, FulfilJob, RejectJob, ThenableJob}
-use Rattle.es_model.specs.InternalMethods.{PropertyDescriptor, data_descriptor, is_accessor_descriptor, Method, DefineOwnProperty, Delete, PreventExtensions, SetPrototypeOf, Freeze, SetStep, RefusesSet, CallsSetter, DefinesOn}
-use Rattle.es_model.specs.Events.{Question, Reply, TheObject, TheCell, TheMark, TheProperty, TheSetStep, TheIntrinsic, TheInput, Deed, Answer, Make, Apply, Attach, SetCell, SetMark, Settle, AddReaction, Enqueue, Dequeue, AddRejection, RemoveRejection, MakeText, Write, Take}
+use Rattle.es_model.specs.InternalMethods.{Method, DefineOwnProperty, Delete, PreventExtensions, SetPrototypeOf, Freeze}
+use Rattle.es_model.specs.Events.{Question, TheObject, TheCell, TheMark, TheProperty, TheSetStep, TheIntrinsic, TheInput, Deed, Make, Apply, Attach, SetCell, SetMark, Settle, AddReaction, Enqueue, Dequeue, AddRejection, RemoveRejection, MakeText, Write, Take}
 use Rattle.es_model.specs.Act.{Act, Give, Throw, Halt, Turn, Ask, Do, Call, Try, ◌>>=◌, completed, by_completion, Completion, NormalCompletion, ThrowCompletion}
 use Rattle.es_model.specs.Errors.{make_error, raise, make_text, error_record, longest_text}
-use Rattle.es_model.specs.PropertyReads.{is_callable, call_getter, content_value, property_value, get, has_property, inherited, StringProperty, AUnit, Length, Inherits, string_property, string_value, get_v}
-use Rattle.es_model.specs.Conversions.{Hint, DefaultHint, NumberHint, StringHint, primitive_by, ordinary_to_primitive, to_primitive, number_of_primitive, number_or_raise, to_number, text_of_primitive, to_string, number_expected}
-use Rattle.es_model.specs.Laws.{IsDescriptorBelow, IsMethodBelow, IsJobBelow, IsDeedBelow, IsStepBelow, IsReplyBelow, IsQuestionBelow, IsAnswerBelow, AreReactionAnswersBelow, IsJobAnswerBelow, IsCompletionBelow, IsActBelow}
+use Rattle.es_model.specs.PropertyReads.{is_callable, call_getter, content_value, property_value, get, inherited, StringProperty, AUnit, Length, Inherits, string_property, string_value, get_v}
+use Rattle.es_model.specs.Conversions.{Hint, DefaultHint, NumberHint, StringHint, primitive_by, to_primitive, number_of_primitive, number_or_raise, to_number, text_of_primitive, to_string}
+use Rattle.es_model.specs.Laws.{IsMethodBelow, IsJobBelow, IsDeedBelow, IsQuestionBelow, IsCompletionBelow, IsActBelow}
 
 -- what comes after, with something that stands by then
 abbrev pub Later : {T : Type 0} → ℕ → (ℕ → T → Type 0) → (T → Act) → Type 0
@@ -186,9 +185,9 @@ get_v_below m Null key k b h = raise_below m NoProperties
 primitive_by_below : (m o : ℕ) (name : Text) (next : Act) (k : Value → Act) → o < m → IsActBelow m next → Later m IsValueBelow k → IsActBelow m (primitive_by o name next k)
 primitive_by_below m o name next k l b h =
     get_below m o (Named name) _ l (λ n le f c. is_callable_below n f _ (λ i j callable u.
-      cond_below i callable (Call f (Object o) [] None (λ result. cond (is_object result) next (k result))) next
-        (value_more n i j f c, omega arith, tt, tt, λ x y v w. cond_below x (is_object v) next (k v) (act_more m x (le_trans le (le_trans j y)) next b) (h x (le_trans le (le_trans j y)) v w))
-        (act_more m i (le_trans le j) next b)))
+    cond_below i callable (Call f (Object o) [] None (λ result. cond (is_object result) next (k result))) next
+    (value_more n i j f c, omega arith, tt, tt, λ x y v w. cond_below x (is_object v) next (k v) (act_more m x (le_trans le (le_trans j y)) next b) (h x (le_trans le (le_trans j y)) v w))
+    (act_more m i (le_trans le j) next b)))
 
 pub to_primitive_below : (m : ℕ) (hint : Hint) (v : Value) (k : Value → Act) → IsValueBelow m v → Later m IsValueBelow k → IsActBelow m (to_primitive hint v k)
 unfolding to_primitive

@@ -2,7 +2,7 @@
 use Rattle.std.proofs.Common.{ℕ, suc, Bool, true, false, cond, not, ◌&&◌, ◌||◌, List, [], ◌∷◌, nat_lt, nat_le, nat_eq, ◌==◌, pos, negsuc, Option, Some, None, IfSome, option_map, unwrap_or}
 use Rattle.std.specs.Option.{option_map_or}
 use Rattle.js_value.specs.NumberText.{text_of_number}
-use Rattle.js_value.specs.Value.{Value, Undefined, Null, Boolean, Number, String, Object, Text, same_text, Key, Index, Named, Numeral, is_index}
+use Rattle.js_value.specs.Value.{Value, Undefined, Null, Boolean, Number, String, Object, Text, same_text, Key, Index, Named, Numeral}
 use Rattle.js_value.specs.Store.{Store, Property, Content, Data, Accessor, Class, Array, ObjectRecord, own_property, with_property, without_property, with_string, with_length, is_length_of, put_name, length_name, length_entry, strings}
 use Rattle.js_value.specs.WellFormed.{IsValueBelow, IfValueBelow, IsContentBelow, ArePropertiesBelow, IsClassBelow, IsObjectBelow}
 use Rattle.js_value.proofs.Below.{put_index_properties, put_name_properties, removed_properties, found_properties, append_properties}

@@ -1,14 +1,14 @@
 -- Whatever a frozen object accepts leaves it as it is: it never needs a write.
-use Rattle.std.proofs.Common.{◌≡◌, ◌≢◌, ℕ, zero, suc, ◌+◌, ◌<◌, ◌≤◌, Bool, true, false, cond, not, ◌&&◌, ◌||◌, List, [], ◌∷◌, ◌++◌, nat_lt, nat_le, nat_eq, ◌==◌, ℤ, pos, negsuc, arith, refl, sym, ap, ◌∙◌, subst, Option, Some, None, IfSome, option_map, unwrap_or, int_eq, inl, inr, ◌⊎◌, ap₂}
+use Rattle.std.proofs.Common.{◌≡◌, ℕ, suc, ◌<◌, Bool, true, false, cond, not, ◌&&◌, ◌||◌, List, [], ◌∷◌, ◌++◌, nat_lt, nat_le, nat_eq, ◌==◌, arith, refl, sym, ap, ◌∙◌, subst, Option, Some, None, IfSome, option_map, unwrap_or, int_eq, inl, inr, ◌⊎◌, ap₂}
 use Rattle.std.specs.Option.{option_map_or}
 use Rattle.std.proofs.lemmas.Bool.Decides.{nat_tests, Decides-int_eq}
 use Rattle.js_value.specs.NumberText.{text_of_number}
-use Rattle.js_value.specs.Value.{Value, Undefined, Null, Boolean, Number, String, Object, Text, same_text, Key, Index, Named, Numeral, is_index, text_of_key}
-use Rattle.js_value.specs.Store.{Store, Property, Content, Data, Accessor, Class, Ordinary, Array, ScriptFunction, BuiltInFunction, ResolveFunction, RejectFunction, Error, Promise, ObjectRecord, own_property, with_property, without_property, with_string, with_length, is_length_of, put_name, put_index, found, length_name, length_property, length_entry, strings, is_frozen, are_fixed, is_fixed, is_fixed_content}
+use Rattle.js_value.specs.Value.{Value, Undefined, Null, Boolean, Number, String, Object, Text, same_text, Key, Index, Named, Numeral, is_index}
+use Rattle.js_value.specs.Store.{Store, Property, Content, Data, Accessor, Class, Array, ObjectRecord, own_property, with_property, without_property, with_string, with_length, is_length_of, put_name, put_index, found, length_name, length_property, length_entry, strings, is_frozen, are_fixed, is_fixed, is_fixed_content}
 use Rattle.js_value.specs.Order.{IsOrderly, Ascending, AllAbove, AllBelow, FitsLength}
 use Rattle.js_value.proofs.Entries.{same_text_is}
 use Rattle.es_model.specs.Equality.{same_value, same_bool}
-use Rattle.es_model.specs.InternalMethods.{PropertyDescriptor, Outcome, refused, unchanged, wrote, differs, differs_value, is_accessor, forbidden_content, forbidden, new_property, new_content, applied, applied_content, has_fields, is_accessor_descriptor, is_data_descriptor, is_generic_descriptor, validate_and_apply_property_descriptor, ordinary_define_own_property, length_of_value, lowest_length, lowered, set_length_to, length_set_by, array_set_length, raised, array_define_own_property, define_by_class, is_refused, define_own_property, ordinary_delete, delete_own_property, prevent_extensions, fixed_content, fixed_property, all_fixed, fixed_class, freeze, set_prototype_of, same_prototype, on_chain, longest, Method, DefineOwnProperty, Delete, PreventExtensions, SetPrototypeOf, Freeze, apply_method}
+use Rattle.es_model.specs.InternalMethods.{PropertyDescriptor, Outcome, refused, unchanged, wrote, differs, differs_value, is_accessor, forbidden_content, forbidden, new_property, new_content, applied, applied_content, has_fields, is_accessor_descriptor, is_data_descriptor, is_generic_descriptor, validate_and_apply_property_descriptor, ordinary_define_own_property, length_of_value, lowest_length, lowered, set_length_to, length_set_by, array_set_length, raised, array_define_own_property, define_by_class, is_refused, define_own_property, ordinary_delete, delete_own_property, prevent_extensions, fixed_content, all_fixed, fixed_class, freeze, set_prototype_of, same_prototype, on_chain, longest, Method, DefineOwnProperty, Delete, PreventExtensions, SetPrototypeOf, Freeze, apply_method}
 
 -- ---- tests
 
@@ -76,20 +76,22 @@ content_same (Data v true) d f m k e = absurd (cc)
 content_same (Data v false) d f m k e =
     let parts : (differs d.writable false ≡ false) × (differs_value d.value v ≡ false) = both_false (differs d.writable false) (differs_value d.value v) e in
     by_kind (same_kind (is_accessor_descriptor d) (is_data_descriptor d) false m k)
-      (ap₂ Data (no_other_value d.value v parts.1) (no_difference d.writable false parts.0))
+    (ap₂ Data (no_other_value d.value v parts.1) (no_difference d.writable false parts.0))
   where
     new : Content
     new = Data (unwrap_or d.value v) (unwrap_or d.writable false)
+
     by_kind : ((is_accessor_descriptor d ≡ false) ⊎ ((is_accessor_descriptor d ≡ false) × (is_data_descriptor d ≡ false))) → Data (unwrap_or d.value v) (unwrap_or d.writable false) ≡ Data v false → cond (is_accessor_descriptor d) (new_content d) (Data (unwrap_or d.value v) (unwrap_or d.writable false)) ≡ Data v false
     by_kind (inl a) same = ap (λ b. cond b (new_content d) (Data (unwrap_or d.value v) (unwrap_or d.writable false))) a ∙ same
     by_kind (inr a) same = ap (λ b. cond b (new_content d) (Data (unwrap_or d.value v) (unwrap_or d.writable false))) a.0 ∙ same
 content_same (Accessor g s) d f m k e =
     let parts : (differs_value d.get g ≡ false) × (differs_value d.set s ≡ false) = both_false (differs_value d.get g) (differs_value d.set s) e in
     by_kind (same_kind (is_accessor_descriptor d) (is_data_descriptor d) true m k)
-      (ap₂ Accessor (no_other_value d.get g parts.0) (no_other_value d.set s parts.1))
+    (ap₂ Accessor (no_other_value d.get g parts.0) (no_other_value d.set s parts.1))
   where
     no_data : is_accessor_descriptor d ≡ true → is_data_descriptor d ≡ false
     no_data a = ap (λ b. b && is_data_descriptor d) (sym a) ∙ m
+
     by_kind : ((is_accessor_descriptor d ≡ true) ⊎ ((is_accessor_descriptor d ≡ false) × (is_data_descriptor d ≡ false))) → Accessor (unwrap_or d.get g) (unwrap_or d.set s) ≡ Accessor g s → cond (is_data_descriptor d) (new_content d) (Accessor (unwrap_or d.get g) (unwrap_or d.set s)) ≡ Accessor g s
     by_kind (inl a) same = ap (λ b. cond b (new_content d) (Accessor (unwrap_or d.get g) (unwrap_or d.set s))) (no_data a) ∙ same
     by_kind (inr a) same = ap (λ b. cond b (new_content d) (Accessor (unwrap_or d.get g) (unwrap_or d.set s))) a.1 ∙ same
@@ -237,8 +239,10 @@ module _ (o : ObjectRecord) (h : IsOrderly o) (f : is_frozen o ≡ true) where
     where
       fixed : is_fixed p ≡ true
       fixed = own_fixed key p e
+
       off : p.configurable ≡ false
       off = not_true p.configurable (both_true (not p.configurable) (is_fixed_content p.content) fixed).0
+
       by_test : (b : Bool) → (not p.configurable && forbidden p d) ≡ b → Leaves (cond b refused (wrote (with_property o key (applied p d))))
       by_test true q = tt
       by_test false q = ap (with_property o key) (applied_same p d fixed m (ap (λ c. not c && forbidden p d) (sym off) ∙ q)) ∙ property_same o key p h e
@@ -256,7 +260,7 @@ module _ (o : ObjectRecord) (h : IsOrderly o) (f : is_frozen o ≡ true) where
   set_length_frozen : (n : ℕ) (w : Bool) (d : PropertyDescriptor) (new : ℕ) → w ≡ false → IsOfOneKind d → Leaves (set_length_to o n w d new)
   set_length_frozen n w d new e m =
       cond_leaves (nat_le n new) (ordinary_define_own_property o (Named length_name) d) _ (ordinary_frozen (Named length_name) d m)
-        (subst (λ b. Leaves (cond (b && (ordinary_define_own_property o (Named length_name) d).answer) (lowered o n new (lowest_length new o.indexed) (unwrap_or d.writable true)) refused)) (sym e) tt)
+      (subst (λ b. Leaves (cond (b && (ordinary_define_own_property o (Named length_name) d).answer) (lowered o n new (lowest_length new o.indexed) (unwrap_or d.writable true)) refused)) (sym e) tt)
 
   length_set_frozen : (n : ℕ) (w : Bool) (d : PropertyDescriptor) (v : Option Value) → w ≡ false → IsOfOneKind d → Leaves (length_set_by o n w d v)
   length_set_frozen n w d None e m = ordinary_frozen (Named length_name) d m
@@ -336,7 +340,7 @@ module _ (o : ObjectRecord) (h : IsOrderly o) (f : is_frozen o ≡ true) where
   frozen_stays PreventExtensions s n = ap (λ b. record o { extensible = b }) (sym shut)
   frozen_stays (SetPrototypeOf v) s n =
       cond_leaves (same_prototype v o.prototype) unchanged _ tt
-        (subst (λ b. Leaves (cond (not b || on_chain longest s n v) refused (wrote (record o { prototype = v })))) (sym shut) tt)
+      (subst (λ b. Leaves (cond (not b || on_chain longest s n v) refused (wrote (record o { prototype = v })))) (sym shut) tt)
   frozen_stays Freeze s n =
       let class : fixed_class o.class ≡ o.class = class_same o.class refl in
       let open_ : false ≡ o.extensible = sym shut in

@@ -1,20 +1,20 @@
 -- Promise operations and jobs speak only of things that stand, where what they are handed does.
-use Rattle.std.proofs.Common.{◌≡◌, ℕ, zero, suc, ◌<◌, ◌≤◌, Bool, true, false, cond, List, [], ◌∷◌, pos, arith, refl, Option, Some, None, le_refl, le_trans, codes}
-use Rattle.js_value.specs.Value.{Value, Undefined, Null, Boolean, Number, String, Object, Text, Named}
-use Rattle.js_value.specs.Store.{ObjectRecord, Reaction, PromiseState, Pending, Fulfilled, Rejected, Class, Ordinary, Array, ScriptFunction, BuiltInFunction, ResolveFunction, RejectFunction, Error, Promise, AnObject, AMark}
+use Rattle.std.proofs.Common.{◌≡◌, ℕ, ◌<◌, ◌≤◌, Bool, List, [], ◌∷◌, arith, refl, Option, Some, None, le_trans, codes}
+use Rattle.js_value.specs.Value.{Value, Undefined, Null, Boolean, Number, String, Object, Named}
+use Rattle.js_value.specs.Store.{Reaction, Pending, Fulfilled, Rejected, Class, Ordinary, Array, ScriptFunction, BuiltInFunction, ResolveFunction, RejectFunction, Error, Promise}
 use Rattle.js_value.specs.Order.{IsOrderly}
-use Rattle.js_value.specs.WellFormed.{IsValueBelow, IsClassBelow, IsStateBelow, IsReactionBelow, AreReactionsBelow, IsObjectBelow}
+use Rattle.js_value.specs.WellFormed.{IsValueBelow, IsClassBelow, AreReactionsBelow, IsObjectBelow}
 use Rattle.js_value.proofs.Below.{value_more, reactions_more}
 use Rattle.es_model.specs.Equality.{same_value}
 use Rattle.es_model.specs.Messages.{ResolvedWithItself}
 use Rattle.es_model.specs.State.{Job, FulfilJob, RejectJob, ThenableJob}
-use Rattle.es_model.specs.Events.{TheObject, Settle, AddRejection, RemoveRejection, Enqueue, AddReaction, Make, SetMark}
-use Rattle.es_model.specs.Act.{Act, Give, Turn, Ask, Do, Try, Completion, NormalCompletion, ThrowCompletion, completed}
+use Rattle.es_model.specs.Events.{TheObject, Enqueue, SetMark}
+use Rattle.es_model.specs.Act.{Act, Give, Ask, Do, Completion, NormalCompletion, ThrowCompletion}
 use Rattle.es_model.specs.Errors.{make_error}
-use Rattle.es_model.specs.PropertyReads.{get, is_callable}
-use Rattle.es_model.specs.Jobs.{enqueue_fulfil_jobs, enqueue_reject_jobs, fulfilled, fulfil_promise, rejected, reject_promise, resolve_with_then, resolve_by_value, resolve_promise, resolving_function, create_resolving_functions, first_call, call_resolve_function, call_reject_function, promise_record, make_promise, handler_of, then_by_class, perform_promise_then, promise_then, settle_derived, handled, thenable_called, run_job, run_dequeued, run_first_job}
+use Rattle.es_model.specs.PropertyReads.{get}
+use Rattle.es_model.specs.Jobs.{enqueue_fulfil_jobs, enqueue_reject_jobs, fulfilled, fulfil_promise, rejected, reject_promise, resolve_with_then, resolve_by_value, resolve_promise, resolving_function, create_resolving_functions, first_call, call_resolve_function, call_reject_function, make_promise, handler_of, then_by_class, perform_promise_then, promise_then, settle_derived, handled, thenable_called, run_job, run_dequeued, run_first_job}
 use Rattle.es_model.specs.Laws.{IsJobBelow, AreReactionAnswersBelow, IsJobAnswerBelow, IsCompletionBelow, IsActBelow}
-use Rattle.es_model.proofs.ActsBelow.{Later, Any, IsNumberBelow, later_more, act_more, completed_below, cond_below, make_error_below, is_callable_below, get_below}
+use Rattle.es_model.proofs.ActsBelow.{Later, IsNumberBelow, later_more, act_more, completed_below, cond_below, make_error_below, is_callable_below, get_below}
 
 -- ---- settling
 
@@ -49,13 +49,13 @@ with_then_below : (m p : ℕ) (v : Value) (c : Completion) (k : Act) → p < m �
 with_then_below m p v (ThrowCompletion e) k q b c h = reject_below m p e k q c h
 with_then_below m p v (NormalCompletion f) k q b c h =
     is_callable_below m f _ (λ n l callable u. cond_below n callable (Do (Enqueue (ThenableJob p v f)) (λ _. k)) (fulfil_promise p v k)
-      ((omega arith, value_more m n l v b, value_more m n l f c), λ i j a w. act_more m i (le_trans l j) k h)
-      (fulfil_below n p v k (value_more m n l v b) (act_more m n l k h)))
+    ((omega arith, value_more m n l v b, value_more m n l f c), λ i j a w. act_more m i (le_trans l j) k h)
+    (fulfil_below n p v k (value_more m n l v b) (act_more m n l k h)))
 
 by_value_below : (m p : ℕ) (v : Value) (k : Act) → p < m → IsValueBelow m v → IsActBelow m k → IsActBelow m (resolve_by_value p v k)
 by_value_below m p (Object o) k q b h =
     completed_below m (get o (Named (codes "then")) Give) _ (get_below m o (Named (codes "then")) Give b (λ n l v c. c))
-      (λ n l c d. with_then_below n p (Object o) c k (omega arith) (omega arith) d (act_more m n l k h))
+    (λ n l c d. with_then_below n p (Object o) c k (omega arith) (omega arith) d (act_more m n l k h))
 by_value_below m p Undefined k q b h = fulfil_below m p Undefined k tt h
 by_value_below m p Null k q b h = fulfil_below m p Null k tt h
 by_value_below m p (Boolean x) k q b h = fulfil_below m p (Boolean x) k tt h
@@ -66,8 +66,8 @@ pub resolve_below : (m p : ℕ) (v : Value) (k : Act) → p < m → IsValueBelow
 unfolding resolve_promise
 resolve_below m p v k q b h =
     cond_below m (same_value v (Object p)) (make_error ResolvedWithItself (λ e. reject_promise p (Object e) k)) (resolve_by_value p v k)
-      (make_error_below m ResolvedWithItself _ (λ n l e c. reject_below n p (Object e) k (omega arith) c (act_more m n l k h)))
-      (by_value_below m p v k q b h)
+    (make_error_below m ResolvedWithItself _ (λ n l e c. reject_below n p (Object e) k (omega arith) c (act_more m n l k h)))
+    (by_value_below m p v k q b h)
 
 -- ---- resolving functions
 
@@ -80,11 +80,20 @@ function_below m c prototype l b = record { class = b; prototype = l; indexed = 
 
 pub create_functions_below : (m p : ℕ) (k : (mark resolve reject : ℕ) → Act) → p < m → ((n : ℕ) → m ≤ n → (a b c : ℕ) → a < n → b < n → c < n → IsActBelow n (k a b c)) → IsActBelow m (create_resolving_functions p k)
 unfolding create_resolving_functions
-create_functions_below m p k q h =
-    ((tt, tt), λ n l mark a. (tt, λ i j prototype b.
-      ((function_below i (ResolveFunction p mark) prototype b (omega arith, omega arith), function_orderly (ResolveFunction p mark) prototype (λ x w e. cc)), λ x y resolve c.
-        ((function_below x (RejectFunction p mark) prototype (omega arith) (omega arith, omega arith), function_orderly (RejectFunction p mark) prototype (λ x w e. cc)), λ z w reject d.
-          h z (omega arith) mark resolve reject (omega arith) (omega arith) d))))
+create_functions_below m p k q h = (
+  (tt, tt),
+  λ n l mark a. (
+    tt,
+    λ i j prototype b. (
+      (function_below i (ResolveFunction p mark) prototype b (omega arith, omega arith), function_orderly (ResolveFunction p mark) prototype (λ x w e. cc)),
+      λ x y resolve c. (
+        (function_below x (RejectFunction p mark) prototype (omega arith) (omega arith, omega arith), function_orderly (RejectFunction p mark) prototype (λ x w e. cc)),
+        λ z w reject d.
+            h z (omega arith) mark resolve reject (omega arith) (omega arith) d,
+      ),
+    ),
+  ),
+)
 
 first_call_below : (m mark : ℕ) (effect otherwise : Act) → IsActBelow m effect → IsActBelow m otherwise → IsActBelow m (first_call mark effect otherwise)
 first_call_below m mark effect otherwise e o = (tt, λ n l is_set u. cond_below n is_set otherwise (Do (SetMark mark) (λ _. effect)) (act_more m n l otherwise o) (tt, λ i j a w. act_more m i (le_trans l j) effect e))
@@ -123,7 +132,7 @@ pub perform_then_below : (m p : ℕ) (f r : Value) (derived : ℕ) (k : Act) →
 unfolding perform_promise_then
 perform_then_below m p f r derived k a b d h =
     handler_below m f (λ x. handler_of r (λ y. Ask (TheObject p) (λ o. then_by_class p o.class x y derived k))) a (λ n l x c. handler_below n r (λ y. Ask (TheObject p) (λ o. then_by_class p o.class x y derived k)) (value_more m n l r b) (λ i j y e.
-      (tt, λ u v o g. by_class_below u p o.class x y derived k g.0.class (value_more n u (le_trans j v) x c) (value_more i u v y e) (omega arith) (act_more m u (le_trans l (le_trans j v)) k h))))
+    (tt, λ u v o g. by_class_below u p o.class x y derived k g.0.class (value_more n u (le_trans j v) x c) (value_more i u v y e) (omega arith) (act_more m u (le_trans l (le_trans j v)) k h))))
 
 pub promise_then_below : (m p : ℕ) (f r : Value) (k : ℕ → Act) → IsValueBelow m f → IsValueBelow m r → Later m IsNumberBelow k → IsActBelow m (promise_then p f r k)
 unfolding promise_then
@@ -153,7 +162,7 @@ run_job_below m (FulfilJob f derived v) b = handled_below m f derived v (NormalC
 run_job_below m (RejectJob f derived v) b = handled_below m f derived v (ThrowCompletion v) b.0 b.1 b.2 b.2
 run_job_below m (ThenableJob p t f) b =
     create_functions_below m p _ b.0 (λ n l mark resolve reject x y z.
-      (value_more m n l f b.2, value_more m n l t b.1, (y, (z, tt)), tt, λ i j c d. thenable_below i p mark c (let e = b.0 in omega arith) d))
+    (value_more m n l f b.2, value_more m n l t b.1, (y, (z, tt)), tt, λ i j c d. thenable_below i p mark c (let e = b.0 in omega arith) d))
 
 pub run_first_job_below : (m : ℕ) → IsActBelow m run_first_job
 unfolding run_first_job

@@ -1,24 +1,22 @@
 -- The operations that write speak only of things that stand, where what they are handed does.
-use Rattle.std.proofs.Common.{◌≡◌, ℕ, zero, suc, ◌<◌, ◌≤◌, Bool, true, false, cond, not, ◌&&◌, List, [], ◌∷◌, ℤ, pos, negsuc, nat_lt, arith, refl, Option, Some, None, IfSome, le_refl, le_trans, codes}
-use Rattle.js_value.specs.Value.{Value, Undefined, Null, Boolean, Number, String, Object, Text, Key, Index, Named, Numeral, is_index, text_of_key}
-use Rattle.js_value.specs.Store.{ObjectRecord, CellRecord, Property, Content, Reaction, PromiseState, Pending, Fulfilled, Rejected, Class, Ordinary, Array, ScriptFunction, BuiltInFunction, ResolveFunction, RejectFunction, Error, Promise, AnObject, is_length_of}
-use Rattle.js_value.specs.Order.{IsKey, IsOrderly}
-use Rattle.js_value.specs.WellFormed.{IsValueBelow, IfValueBelow, IsContentBelow, IsClassBelow, IsStateBelow, IsReactionBelow, AreReactionsBelow, IsObjectBelow}
-use Rattle.js_value.proofs.Below.{value_more, if_value_more, reactions_more}
-use Rattle.es_model.specs.Equality.{same_value, is_strictly_equal}
-use Rattle.es_model.specs.Messages.{InvalidArrayLength, NoProperties, NotWritable, NotDefinable, NotDeletable, AccessorOnIndex, NotInitialised, AssignmentToConstant, ResolvedWithItself}
-use Rattle.es_model.specs.State.{Job, FulfilJob, RejectJob, ThenableJob}
-use Rattle.es_model.specs.InternalMethods.{PropertyDescriptor, data_descriptor, is_accessor_descriptor, Method, DefineOwnProperty, Delete, SetStep, RefusesSet, CallsSetter, DefinesOn}
-use Rattle.es_model.specs.Events.{SetCell, Make, Settle, Enqueue, Apply}
-use Rattle.es_model.specs.Act.{Act, Give, Turn, Ask, Do, Call, Try, Completion, NormalCompletion, ThrowCompletion}
-use Rattle.es_model.specs.Errors.{raise, make_error}
-use Rattle.es_model.specs.PropertyReads.{StringProperty, AUnit, Length, Inherits, string_property, get, is_callable}
-use Rattle.es_model.specs.Conversions.{DefaultHint, to_primitive, to_number, Comparison, Equals, NumberLeft, NumberRight, PrimitiveLeft, PrimitiveRight, comparison, next_comparison, loosely_equal_within, is_loosely_equal}
-use Rattle.es_model.specs.PropertyWrites.{NumberConversion, length_or_raise, with_length_value, define_own_property, define_property_or_throw, accepted_or, create_data_property, take_set_step, set_found, ordinary_set, set_inherited, set_on_string, set_v, put_value, delete_property_or_throw, delete_on_string, delete_v}
+use Rattle.std.proofs.Common.{ℕ, zero, suc, ◌≤◌, Bool, true, false, not, ◌&&◌, ℤ, pos, negsuc, nat_lt, Option, Some, None, IfSome, le_refl, le_trans}
+use Rattle.js_value.specs.Value.{Value, Undefined, Null, Boolean, Number, String, Object, Text, Key, is_index, text_of_key}
+use Rattle.js_value.specs.Store.{Property, is_length_of}
+use Rattle.js_value.specs.Order.{IsKey}
+use Rattle.js_value.specs.WellFormed.{IsValueBelow, IfValueBelow, IsContentBelow}
+use Rattle.js_value.proofs.Below.{value_more, if_value_more}
+use Rattle.es_model.specs.Equality.{is_strictly_equal}
+use Rattle.es_model.specs.Messages.{InvalidArrayLength, NoProperties, NotWritable, NotDefinable, NotDeletable, AccessorOnIndex, NotInitialised, AssignmentToConstant}
+use Rattle.es_model.specs.InternalMethods.{PropertyDescriptor, is_accessor_descriptor, DefineOwnProperty, SetStep, RefusesSet, CallsSetter, DefinesOn}
+use Rattle.es_model.specs.Events.{SetCell, Apply}
+use Rattle.es_model.specs.Act.{Act, Do}
+use Rattle.es_model.specs.Errors.{raise}
+use Rattle.es_model.specs.PropertyReads.{StringProperty, AUnit, Length, Inherits, string_property}
+use Rattle.es_model.specs.Conversions.{DefaultHint, to_number, Comparison, Equals, NumberLeft, NumberRight, PrimitiveLeft, PrimitiveRight, comparison, next_comparison, loosely_equal_within, is_loosely_equal}
+use Rattle.es_model.specs.PropertyWrites.{NumberConversion, length_or_raise, with_length_value, define_own_property, define_property_or_throw, accepted_or, take_set_step, set_found, ordinary_set, set_inherited, set_on_string, set_v, put_value, delete_property_or_throw, delete_on_string, delete_v}
 use Rattle.es_model.specs.Bindings.{make_cell, initialize_cell, value_or_raise, read_cell, write_cell, copy_cell}
-use Rattle.es_model.specs.Jobs.{enqueue_fulfil_jobs, enqueue_reject_jobs, fulfilled, fulfil_promise, rejected, reject_promise, resolve_with_then, resolve_by_value, resolve_promise, resolving_function, create_resolving_functions, first_call, call_resolve_function, call_reject_function, promise_record, make_promise, handler_of, then_by_class, perform_promise_then, promise_then, settle_derived, handled, thenable_called, run_job, run_dequeued, run_first_job}
-use Rattle.es_model.specs.Laws.{IsDescriptorBelow, IsJobBelow, IsStepBelow, AreReactionAnswersBelow, IsJobAnswerBelow, IsCompletionBelow, IsActBelow}
-use Rattle.es_model.proofs.ActsBelow.{Later, Any, IsNumberBelow, later_more, act_more, completed_below, cond_below, make_error_below, raise_below, is_callable_below, get_below, to_primitive_below, to_number_below}
+use Rattle.es_model.specs.Laws.{IsDescriptorBelow, IsStepBelow, IsActBelow}
+use Rattle.es_model.proofs.ActsBelow.{Later, Any, IsNumberBelow, later_more, act_more, cond_below, raise_below, to_primitive_below, to_number_below}
 
 -- ---- bindings
 
@@ -40,10 +38,12 @@ read_cell_below m c k h = (tt, λ n l cell b. value_or_raise_below n cell.value 
 
 pub write_cell_below : (m c : ℕ) (v : Value) (k : Act) → IsValueBelow m v → IsActBelow m k → IsActBelow m (write_cell c v k)
 unfolding write_cell
-write_cell_below m c v k b h =
-    (tt, λ n l cell x. value_or_raise_below n cell.value _ x (λ i j old y.
+write_cell_below m c v k b h = (
+  tt,
+  λ n l cell x. value_or_raise_below n cell.value _ x (λ i j old y.
       cond_below i cell.const (raise AssignmentToConstant) (Do (SetCell c v) (λ _. k)) (raise_below i AssignmentToConstant)
-        (value_more m i (le_trans l j) v b, λ p q a u. act_more m p (le_trans l (le_trans j q)) k h)))
+      (value_more m i (le_trans l j) v b, λ p q a u. act_more m p (le_trans l (le_trans j q)) k h)),
+)
 
 pub copy_cell_below : (m c : ℕ) (k : ℕ → Act) → Later m IsNumberBelow k → IsActBelow m (copy_cell c k)
 unfolding copy_cell
@@ -72,10 +72,12 @@ apply_below m o key d k i b h = ((i, b), h)
 
 pub define_below : (convert : NumberConversion) → ConvertsBelow convert → (m o : ℕ) (key : Key) (d : PropertyDescriptor) (k : Bool → Act) → IsKey key → IsDescriptorBelow m d → Later m Any k → IsActBelow m (define_own_property convert o key d k)
 unfolding define_own_property
-define_below convert c m o key d k i b h =
-    (tt, λ n l r x. cond_below n (not (is_index key) && is_length_of r.class (text_of_key key)) (with_length_value convert d d.value (λ d. Do (Apply o (DefineOwnProperty key d)) k)) (Do (Apply o (DefineOwnProperty key d)) k)
+define_below convert c m o key d k i b h = (
+  tt,
+  λ n l r x. cond_below n (not (is_index key) && is_length_of r.class (text_of_key key)) (with_length_value convert d d.value (λ d. Do (Apply o (DefineOwnProperty key d)) k)) (Do (Apply o (DefineOwnProperty key d)) k)
       (length_value_below convert c n d d.value _ (descriptor_more m n l d b) (if_value_more m n l d.value b.value) (λ p q e f. apply_below p o key e k i f (later_more m p Any k (le_trans l q) h)))
-      (apply_below n o key d k i (descriptor_more m n l d b) (later_more m n Any k l h)))
+      (apply_below n o key d k i (descriptor_more m n l d b) (later_more m n Any k l h)),
+)
 
 accepted_below : (m : ℕ) (failure k : Act) (b : Bool) → IsActBelow m failure → IsActBelow m k → IsActBelow m (accepted_or failure k b)
 accepted_below m failure k true f h = h
@@ -85,7 +87,7 @@ pub define_or_throw_below : (convert : NumberConversion) → ConvertsBelow conve
 unfolding define_property_or_throw
 define_or_throw_below convert c m o key d k i b h =
     cond_below m (is_index key && is_accessor_descriptor d) (raise AccessorOnIndex) _ (raise_below m AccessorOnIndex)
-      (define_below convert c m o key d _ i b (λ n l a u. accepted_below n (raise NotDefinable) k a (raise_below n NotDefinable) (act_more m n l k h)))
+    (define_below convert c m o key d _ i b (λ n l a u. accepted_below n (raise NotDefinable) k a (raise_below n NotDefinable) (act_more m n l k h)))
 
 set_step_below : (convert : NumberConversion) → ConvertsBelow convert → (m : ℕ) (key : Key) (v receiver : Value) (step : SetStep) (k : Bool → Act) → IsKey key → IsValueBelow m v → IsValueBelow m receiver → IsStepBelow m step → Later m Any k → IsActBelow m (take_set_step convert key v receiver step k)
 set_step_below convert c m key v receiver RefusesSet k i b r s h = h m (le_refl m) false tt
