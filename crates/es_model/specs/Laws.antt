@@ -4,7 +4,7 @@ use Rattle.js_value.specs.Value.{Value, Text}
 use Rattle.js_value.specs.Store.{Reaction}
 use Rattle.js_value.specs.Order.{IsKey, IsOrderly}
 use Rattle.js_value.specs.WellFormed.{IsValueBelow, IfValueBelow, IfNumberBelow, AreNumbersBelow, AreValuesBelow, IsContentBelow, IsStateBelow, IsReactionBelow, AreReactionsBelow, IsObjectBelow, IsThingBelow, IsThingOrderly, IsWellFormed}
-use Rattle.es_model.specs.State.{World, State, Job, FulfilJob, RejectJob, ThenableJob}
+use Rattle.es_model.specs.State.{Ledger, World, State, Job, FulfilJob, RejectJob, ThenableJob}
 use Rattle.es_model.specs.Ledger.{Event, Happens, Stops, OutOf}
 use Rattle.es_model.specs.InternalMethods.{PropertyDescriptor, Method, DefineOwnProperty, SetPrototypeOf, SetStep, RefusesSet, CallsSetter, DefinesOn}
 use Rattle.es_model.specs.Events.{Question, Reply, TheObject, TheCell, TheMark, TheProperty, TheSetStep, TheIntrinsic, TheInput, Deed, Answer, Make, Apply, Attach, SetCell, SetMark, Settle, AddReaction, Enqueue, Dequeue, AddRejection}
@@ -180,3 +180,10 @@ abbrev pub CallsWell : Calls → Type 0
 CallsWell calls = (f this : Value) (arguments : List Value) (target : Option Value) (s : State) → IsWorldWellFormed s.world
     → IsValueBelow (length s.world.store) f → IsValueBelow (length s.world.store) this → AreValuesBelow (length s.world.store) arguments → IfValueBelow (length s.world.store) target
     → IsRanWellFormed (length s.world.store) (calls f this arguments target s)
+
+-- ---- limits
+
+pub record IsWithinRoom (l : Ledger) : Type 0 where
+  pub slots : l.used.slots ≤ l.room.slots
+  pub units : l.used.units ≤ l.room.units
+  pub names : l.used.names ≤ l.room.names

@@ -1,3 +1,4 @@
 pub mod Below
 pub mod Entries
 mod KeyRows
+pub mod Keys
