@@ -2,6 +2,7 @@
 use Rattle.std.proofs.Common.{ℕ, ◌<◌, ◌≤◌, Bool, true, false, cond, [], ◌∷◌, length, ℤ, pos, nat_lt, arith, refl, Option, Some, None, IfSome, le_refl, le_trans, codes}
 use Rattle.js_value.specs.Value.{Value, Undefined, Null, Boolean, Number, String, Object, is_object, Text, Key, Named}
 use Rattle.js_value.specs.Store.{Property, Content, Data, Accessor, callable_class}
+use Rattle.js_value.specs.Literal.{digits_number}
 use Rattle.js_value.specs.Order.{IsOrderly}
 use Rattle.js_value.specs.WellFormed.{IsValueBelow, IsContentBelow, IsObjectBelow}
 use Rattle.js_value.proofs.Below.{value_more, values_more, if_value_more, content_more, reaction_more, state_more, thing_more, if_number_more}
@@ -113,6 +114,7 @@ cond_below m false p q h g = g
 -- ---- errors
 
 error_orderly : (prototype : ℕ) (text : Text) → IsOrderly (error_record prototype text)
+unfolding digits_number
 error_orderly prototype text = record { indices = tt; range = tt; length = tt; names = (refl, tt); no_index = (refl, tt); no_length = tt }
 
 error_below : (m prototype : ℕ) (text : Text) → prototype < m → IsObjectBelow m (error_record prototype text)

@@ -2,6 +2,7 @@
 use Rattle.std.proofs.Common.{◌≡◌, ℕ, ◌<◌, ◌≤◌, Bool, List, [], ◌∷◌, arith, refl, Option, Some, None, le_trans, codes}
 use Rattle.js_value.specs.Value.{Value, Undefined, Null, Boolean, Number, String, Object, Named}
 use Rattle.js_value.specs.Store.{Reaction, Pending, Fulfilled, Rejected, Class, Ordinary, Array, ScriptFunction, BuiltInFunction, ResolveFunction, RejectFunction, Error, Promise}
+use Rattle.js_value.specs.Literal.{digits_number}
 use Rattle.js_value.specs.Order.{IsOrderly}
 use Rattle.js_value.specs.WellFormed.{IsValueBelow, IsClassBelow, AreReactionsBelow, IsObjectBelow}
 use Rattle.js_value.proofs.Below.{value_more, reactions_more}
@@ -72,6 +73,7 @@ resolve_below m p v k q b h =
 -- ---- resolving functions
 
 function_orderly : (c : Class) (prototype : ℕ) → ((n : ℕ) (w : Bool) → c ≡ Array n w → ⊥) → IsOrderly (resolving_function c prototype)
+unfolding digits_number
 function_orderly (Array n w) prototype never = absurd (never n w refl)
 function_orderly c prototype never = record { indices = tt; range = tt; length = tt; names = (refl, (refl, tt)); no_index = (refl, (refl, tt)); no_length = tt }
 

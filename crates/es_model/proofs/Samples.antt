@@ -15,6 +15,8 @@ use Rattle.es_model.specs.Jobs.{fulfil_promise, reject_promise, resolve_promise,
 use Rattle.es_model.specs.Ledger.{written}
 use Rattle.es_model.specs.PropertyReads.{is_callable, property_value, get, has_property, get_v}
 use Rattle.es_model.specs.PropertyWrites.{define_own_property as define_with_length, define_property_or_throw, create_data_property, create_data_property_or_throw, ordinary_set, set_v, set_or_throw, put_value, delete_property_or_throw, delete_v}
+use Rattle.js_value.specs.Literal.{literal_number, digits_number}
+use Rattle.js_value.specs.Numeral.{is_white_space}
 
 abbrev pub plain : Value → Property
 plain v = record { content = Data v true; enumerable = true; configurable = true }
@@ -110,5 +112,5 @@ used_after r = (world_after r).ledger.used
 
 -- rows that name this compute through all definitions
 unfoldable pub computing : Unit {0}
-unfolding object_in cell_in mark_in own_property with_property without_property is_frozen run to_primitive to_number to_string to_property_key number_expected text_expected key_expected loosely_equal_within is_loosely_equal make_error raise make_text reply perform validate_and_apply_property_descriptor define_own_property delete_own_property prevent_extensions freeze longest property_from find_property on_chain set_prototype_of set_step apply_method fulfil_promise reject_promise resolve_promise create_resolving_functions call_resolve_function call_reject_function make_promise perform_promise_then promise_then run_job run_first_job written is_callable property_value get has_property get_v define_with_length define_property_or_throw create_data_property create_data_property_or_throw ordinary_set set_v set_or_throw put_value delete_property_or_throw delete_v
+unfolding literal_number digits_number is_white_space object_in cell_in mark_in own_property with_property without_property is_frozen run to_primitive to_number to_string to_property_key number_expected text_expected key_expected loosely_equal_within is_loosely_equal make_error raise make_text reply perform validate_and_apply_property_descriptor define_own_property delete_own_property prevent_extensions freeze longest property_from find_property on_chain set_prototype_of set_step apply_method fulfil_promise reject_promise resolve_promise create_resolving_functions call_resolve_function call_reject_function make_promise perform_promise_then promise_then run_job run_first_job written is_callable property_value get has_property get_v define_with_length define_property_or_throw create_data_property create_data_property_or_throw ordinary_set set_v set_or_throw put_value delete_property_or_throw delete_v
 computing = tt

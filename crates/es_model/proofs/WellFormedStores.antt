@@ -2,6 +2,7 @@
 use Rattle.std.proofs.Common.{◌≡◌, ℕ, ◌+◌, ◌<◌, ◌≤◌, Bool, true, false, cond, not, ◌||◌, List, [], ◌∷◌, ◌++◌, length, set, filter, ◌==◌, arith, refl, sym, ap, ◌∙◌, subst, Option, Some, None, IfSome, slice_get, length-set, length-append}
 use Rattle.js_value.specs.Value.{Text, Named}
 use Rattle.js_value.specs.Store.{Store, Thing, AnObject, ACell, AMark, ObjectRecord, Property, Content, Data, Accessor, Class, Ordinary, Array, ScriptFunction, BuiltInFunction, ResolveFunction, RejectFunction, Error, Promise, PromiseState, Pending, Fulfilled, Rejected, Reaction, object_in, cell_in, mark_in, as_object, as_cell, no_object, own_property, is_length_of, frozen, size}
+use Rattle.js_value.specs.Literal.{digits_number}
 use Rattle.js_value.specs.Order.{IsOrderly}
 use Rattle.js_value.specs.WellFormed.{IfValueBelow, AreNumbersBelow, IsContentBelow, IsStateBelow, IsReactionBelow, AreReactionsBelow, IsClassBelow, IsObjectBelow, IsThingBelow, IsThingOrderly, ChainEnds, IsWellFormed}
 use Rattle.js_value.proofs.Below.{value_more, object_more, if_value_more, numbers_more}
@@ -228,6 +229,7 @@ pointing_below m p (Data v w) l h = l
 pointing_below m p (Accessor g s) l h = h
 
 with_prototype_orderly : (p : ℕ) (o : ObjectRecord) (q : Option Property) → IsOrderly o → IsOrderly (with_prototype p o q)
+unfolding digits_number
 with_prototype_orderly p o None h = h
 with_prototype_orderly p o (Some q) h = with_property_orderly o prototype_name (record q { content = pointing_to p q.content }) refl (no_length o.class) h
 

@@ -1,12 +1,12 @@
 -- No count ever passes its limit.
-use Rattle.std.proofs.Common.{◌≡◌, ℕ, ◌≤◌, Bool, true, false, cond, List, [], ◌∷◌, ◌++◌, length, nat_lt, arith, refl, Option, Some, None, slice_get}
+use Rattle.std.proofs.Common.{◌≡◌, ℕ, Bool, true, false, cond, List, [], ◌∷◌, ◌++◌, length, nat_lt, arith, refl, Option, Some, None}
 use Rattle.std.proofs.lemmas.Bool.Decides.{nat_tests}
 use Rattle.js_value.specs.Value.{Text}
 use Rattle.js_value.specs.Store.{Thing, AnObject, ACell, AMark, ObjectRecord, Class, Promise, PromiseState, Pending, Fulfilled, Rejected, Ordinary, Array, ScriptFunction, BuiltInFunction, ResolveFunction, RejectFunction, Error, Reaction, frozen, size, object_in, cell_in, mark_in}
 use Rattle.es_model.specs.State.{World, Counts, plus, nothing, some_slots, some_units, Job}
-use Rattle.es_model.specs.Ledger.{Event, Happens, Stops, Full, Slots, Units, Names, charged, charged_unless, passed, written, with_thing, first_cost, with_name, name_added, name_cost, growth}
+use Rattle.es_model.specs.Ledger.{Event, Happens, Slots, Units, Names, charged, charged_unless, written, with_thing, first_cost, with_name, name_added, name_cost, growth}
 use Rattle.es_model.specs.InternalMethods.{Method, apply_method}
-use Rattle.es_model.specs.Events.{Deed, Answer, perform, Make, Apply, Attach, SetCell, SetMark, Settle, AddReaction, Enqueue, Dequeue, AddRejection, RemoveRejection, MakeText, Write, Take, apply_outcome, settle_class, react_class, dequeue}
+use Rattle.es_model.specs.Events.{Deed, perform, Make, Apply, Attach, SetCell, SetMark, Settle, AddReaction, Enqueue, Dequeue, AddRejection, RemoveRejection, MakeText, Write, Take, apply_outcome, settle_class, react_class, dequeue}
 use Rattle.es_model.specs.Laws.{IfHappens, IsWithinRoom}
 
 Within : {A : Type 0} → Event A → Type 0
@@ -18,6 +18,7 @@ charged_within {A} price a v = by_units (nat_lt v.ledger.room.units used.units) 
   where
     used : Counts
     used = plus v.ledger.used price
+
     by_units : (b c d : Bool) → nat_lt v.ledger.room.units used.units ≡ b → nat_lt v.ledger.room.names used.names ≡ c → nat_lt v.ledger.room.slots used.slots ≡ d
         → IfHappens (charged_unless (cond b (Some Units) (cond c (Some Names) (cond d (Some Slots) None))) a (record v { ledger = record v.ledger { used = used } })) (λ a v. IsWithinRoom v.ledger)
     by_units true c d p q r = tt

@@ -1,3 +1,8 @@
+pub mod Text
+pub mod Number
+pub mod Word
+pub mod Numeral
+pub mod Literal
 pub mod NumberText
 pub mod Order
 pub mod Store
