@@ -13,3 +13,8 @@ pub mod Spelled
 pub mod Indices
 pub mod Laws
 pub mod Samples
+pub mod Below
+pub mod Entries
+mod KeyRows
+pub mod Keys
+pub mod NumberTexts

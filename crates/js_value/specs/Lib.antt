@@ -3,3 +3,8 @@ pub mod Number
 pub mod Word
 pub mod Numeral
 pub mod Literal
+pub mod NumberText
+pub mod Order
+pub mod Store
+pub mod Value
+pub mod WellFormed

@@ -1,0 +1,186 @@
+-- No event makes a count fall, takes a name or a thing away, or changes a limit.
+use Rattle.std.proofs.Common.{◌≡◌, ℕ, zero, suc, ◌≤◌, Bool, true, false, cond, List, [], ◌∷◌, ◌++◌, length, arith, refl, sym, ap, ◌∙◌, append_assoc, append-nil, Option, Some, None, slice_get, length-append, length-set, le_refl}
+use Rattle.js_value.specs.Value.{Value, Text}
+use Rattle.js_value.specs.Store.{Store, Thing, AnObject, ACell, AMark, ObjectRecord, Class, Promise, PromiseState, Pending, Fulfilled, Rejected, Ordinary, Array, ScriptFunction, BuiltInFunction, ResolveFunction, RejectFunction, Error, Reaction, frozen, size, object_in, cell_in, mark_in}
+use Rattle.es_model.specs.State.{World, State, Counts, plus, nothing, some_slots, some_units, Job}
+use Rattle.es_model.specs.Ledger.{Event, Happens, Stops, Full, charged, charged_unless, passed, written, with_thing, first_cost, with_name, name_added, name_cost, growth}
+use Rattle.es_model.specs.InternalMethods.{Method, apply_method}
+use Rattle.es_model.specs.Events.{reply, Deed, perform, Make, Apply, Attach, SetCell, SetMark, Settle, AddReaction, Enqueue, Dequeue, AddRejection, RemoveRejection, MakeText, Write, Take, apply_outcome, settle_class, react_class, dequeue, attached}
+use Rattle.es_model.specs.Act.{Act, Give, Throw, Halt, Turn, Ask, Do, Call, Try, Completion, NormalCompletion, ThrowCompletion, Ran, Ends, Halts, Calls, with_world, spent, happened, returned, ended, run}
+use Rattle.es_model.specs.Laws.{Grows, IfHappens, state_of}
+
+grows_same : (w v : World) → length w.store ≤ length v.store → v.ledger.used ≡ w.ledger.used → v.names ≡ w.names → v.ledger.room ≡ w.ledger.room → v.realm ≡ w.realm → Grows w v
+grows_same w v things used names room realm = record {
+  things = things;
+  slots = rw used (le_refl w.ledger.used.slots);
+  units = rw used (le_refl w.ledger.used.units);
+  names_used = rw used (le_refl w.ledger.used.names);
+  names = ([], names ∙ sym (append-nil w.names));
+  room = room;
+  realm = realm;
+}
+
+pub grows_refl : (w : World) → Grows w w
+grows_refl w = grows_same w w (le_refl (length w.store)) refl refl refl refl
+
+pub grows_trans : (u v w : World) → Grows u v → Grows v w → Grows u w
+grows_trans u v w a b = record {
+  things = omega (arith, a.things, b.things);
+  slots = omega (arith, a.slots, b.slots);
+  units = omega (arith, a.units, b.units);
+  names_used = omega (arith, a.names_used, b.names_used);
+  names = (a.names.0 ++ b.names.0, b.names.1 ∙ ap (λ l. l ++ b.names.0) a.names.1 ∙ append_assoc u.names a.names.0 b.names.0);
+  room = b.room ∙ a.room;
+  realm = b.realm ∙ a.realm;
+}
+
+charged_grows : {A : Type 0} (w v : World) (price : Counts) (a : A) → Grows w v → IfHappens (charged price a v) (λ b u. Grows w u)
+charged_grows w v price a g = by_stop (passed (plus v.ledger.used price) v.ledger.room)
+  where
+    by_stop : (o : Option Full) → IfHappens (charged_unless o a (record v { ledger = record v.ledger { used = plus v.ledger.used price } })) (λ b u. Grows w u)
+    by_stop (Some full) = tt
+    by_stop None = record {
+      things = g.things;
+      slots = omega (arith, g.slots);
+      units = omega (arith, g.units);
+      names_used = omega (arith, g.names_used);
+      names = g.names;
+      room = g.room;
+      realm = g.realm;
+    }
+
+thing_grows : (w v : World) (n : ℕ) (t : Thing) → Grows w v → Grows w (with_thing v n t)
+thing_grows w v n t g = record {
+  things = rw (length-set v.store n t) g.things;
+  slots = g.slots;
+  units = g.units;
+  names_used = g.names_used;
+  names = g.names;
+  room = g.room;
+  realm = g.realm;
+}
+
+written_grows : {A : Type 0} (w v : World) (n : ℕ) (before after : Thing) (p : Counts) (a : A) → Grows w v → IfHappens (written v n before after p a) (λ b u. Grows w u)
+unfolding written
+written_grows w v n before after p a g = by_bool (frozen before)
+  where
+    by_bool : (b : Bool) → IfHappens (cond b (Happens a v) (charged (plus (first_cost v n) p) a (with_thing v n after))) (λ b u. Grows w u)
+    by_bool true = g
+    by_bool false = charged_grows w (with_thing v n after) (plus (first_cost v n) p) a (thing_grows w v n after g)
+
+name_grows : (w : World) (name : Option Text) → Grows w (with_name name w)
+name_grows w None = grows_refl w
+name_grows w (Some t) = record {
+  things = le_refl (length w.store);
+  slots = le_refl w.ledger.used.slots;
+  units = le_refl w.ledger.used.units;
+  names_used = le_refl w.ledger.used.names;
+  names = (t ∷ [], refl);
+  room = refl;
+  realm = refl;
+}
+
+apply_grows : (w : World) (n : ℕ) (m : Method) (before : ObjectRecord) (answer : Bool) (after : Option ObjectRecord) → IfHappens (apply_outcome w n m before answer after) (λ a v. Grows w v)
+apply_grows w n m before answer None = grows_refl w
+apply_grows w n m before answer (Some after) =
+    let name : Option Text = name_added w m before after in
+    written_grows w (with_name name w) n (AnObject before) (AnObject after) (plus (growth before after) (name_cost m name)) answer (name_grows w name)
+
+settle_grows : (w : World) (n : ℕ) (state : PromiseState) (o : ObjectRecord) (c : Class) → IfHappens (settle_class w n state o c) (λ a v. Grows w v)
+settle_grows w n state o (Promise Pending reactions) = written_grows w w n (AnObject o) (AnObject (record o { class = Promise state [] })) nothing (Some reactions) (grows_refl w)
+settle_grows w n state o (Promise (Fulfilled v) reactions) = grows_refl w
+settle_grows w n state o (Promise (Rejected v) reactions) = grows_refl w
+settle_grows w n state o Ordinary = grows_refl w
+settle_grows w n state o (Array k b) = grows_refl w
+settle_grows w n state o (ScriptFunction m f h cs) = grows_refl w
+settle_grows w n state o (BuiltInFunction row) = grows_refl w
+settle_grows w n state o (ResolveFunction p m) = grows_refl w
+settle_grows w n state o (RejectFunction p m) = grows_refl w
+settle_grows w n state o Error = grows_refl w
+
+react_grows : (w : World) (n : ℕ) (r : Reaction) (o : ObjectRecord) (c : Class) → IfHappens (react_class w n r o c) (λ a v. Grows w v)
+react_grows w n r o (Promise Pending reactions) =
+    let after : ObjectRecord = record o { class = Promise Pending (reactions ++ r ∷ []) } in
+    written_grows w w n (AnObject o) (AnObject after) (growth o after) tt (grows_refl w)
+react_grows w n r o (Promise (Fulfilled v) reactions) = grows_refl w
+react_grows w n r o (Promise (Rejected v) reactions) = grows_refl w
+react_grows w n r o Ordinary = grows_refl w
+react_grows w n r o (Array k b) = grows_refl w
+react_grows w n r o (ScriptFunction m f h cs) = grows_refl w
+react_grows w n r o (BuiltInFunction row) = grows_refl w
+react_grows w n r o (ResolveFunction p m) = grows_refl w
+react_grows w n r o (RejectFunction p m) = grows_refl w
+react_grows w n r o Error = grows_refl w
+
+dequeue_grows : (jobs : List Job) (w : World) → IfHappens (dequeue jobs w) (λ a v. Grows w v)
+dequeue_grows [] w = grows_refl w
+dequeue_grows (j ∷ jobs) w = grows_same w (record w { jobs = jobs }) (le_refl (length w.store)) refl refl refl refl
+
+attached_length : (p : ℕ) (t : Option Thing) (s : Store) (f : ℕ) → length s ≤ length (attached p t s f)
+attached_length p (Some (AnObject o)) s f = rw (length-set s f) (le_refl (length s))
+attached_length p (Some (ACell c)) s f = le_refl (length s)
+attached_length p (Some (AMark b)) s f = le_refl (length s)
+attached_length p None s f = le_refl (length s)
+
+pub perform_grows : (d : Deed) (w : World) → IfHappens (perform d w) (λ a v. Grows w v)
+unfolding perform
+perform_grows (Make t) w =
+    charged_grows w (record w { store = w.store ++ t ∷ [] }) (some_slots (size t)) (length w.store)
+    (grows_same w (record w { store = w.store ++ t ∷ [] }) (let e = length-append w.store (t ∷ []) in omega (arith, e)) refl refl refl refl)
+perform_grows (Apply n m) w =
+    let before : ObjectRecord = object_in w.store n in
+    apply_grows w n m before (apply_method m w.store n before).answer (apply_method m w.store n before).written
+perform_grows (Attach f p) w =
+    grows_same w (record w { store = attached p (slice_get w.store f) w.store f }) (attached_length p (slice_get w.store f) w.store f) refl refl refl refl
+perform_grows (SetCell n v) w = written_grows w w n (ACell (cell_in w.store n)) (ACell (record { value = Some v; const = (cell_in w.store n).const })) nothing tt (grows_refl w)
+perform_grows (SetMark n) w = written_grows w w n (AMark (mark_in w.store n)) (AMark true) nothing tt (grows_refl w)
+perform_grows (Settle n state) w = settle_grows w n state (object_in w.store n) (object_in w.store n).class
+perform_grows (AddReaction n r) w = react_grows w n r (object_in w.store n) (object_in w.store n).class
+perform_grows (Enqueue job) w = charged_grows w (record w { jobs = w.jobs ++ job ∷ [] }) (some_slots 4) tt (grows_same w (record w { jobs = w.jobs ++ job ∷ [] }) (le_refl (length w.store)) refl refl refl refl)
+perform_grows Dequeue w = dequeue_grows w.jobs w
+perform_grows (AddRejection n) w = grows_same w _ (le_refl (length w.store)) refl refl refl refl
+perform_grows (RemoveRejection n) w = grows_same w _ (le_refl (length w.store)) refl refl refl refl
+perform_grows (MakeText units) w = charged_grows w w (some_units units) tt (grows_refl w)
+perform_grows (Write bytes) w = grows_same w _ (le_refl (length w.store)) refl refl refl refl
+perform_grows (Take line left) w = grows_same w _ (le_refl (length w.store)) refl refl refl refl
+
+-- ---- runs
+
+abbrev pub CallsGrow : Calls → Type 0
+CallsGrow c = (f this : Value) (arguments : List Value) (target : Option Value) (s : State) → Grows s.world (state_of (c f this arguments target s)).world
+
+happened_grows : {A : Type 0} (w : World) (e : Event A) (s : State) (f : A → State → Ran) → IfHappens e (λ a v. Grows w v) → Grows w s.world → ((a : A) (t : State) → Grows w t.world → Grows w (state_of (f a t)).world) → Grows w (state_of (happened e s f)).world
+happened_grows w (Happens a v) s f g h next = next a (with_world s v) g
+happened_grows w (Stops full) s f g h next = h
+
+spent_grows : (w : World) (n : ℕ) (s : State) (f : State → Ran) → Grows w s.world → ((t : State) → Grows w t.world → Grows w (state_of (f t)).world) → Grows w (state_of (spent n s f)).world
+spent_grows w zero s f g next = g
+spent_grows w (suc n) s f g next = next (record s { meter = n }) g
+
+returned_grows : (w : World) (x : Ran) (f : Value → State → Ran) → Grows w (state_of x).world → ((v : Value) (t : State) → Grows w t.world → Grows w (state_of (f v t)).world) → Grows w (state_of (returned x f)).world
+returned_grows w (Ends (NormalCompletion v) s) f g next = next v s g
+returned_grows w (Ends (ThrowCompletion v) s) f g next = g
+returned_grows w (Halts stop s) f g next = g
+
+ended_grows : (w : World) (x : Ran) (f : Completion → State → Ran) → Grows w (state_of x).world → ((c : Completion) (t : State) → Grows w t.world → Grows w (state_of (f c t)).world) → Grows w (state_of (ended x f)).world
+ended_grows w (Ends c s) f g next = next c s g
+ended_grows w (Halts stop s) f g next = g
+
+-- from any world that the state has grown from
+run_grows_from : (c : Calls) → CallsGrow c → (w : World) (p : Act) (s : State) → Grows w s.world → Grows w (state_of (run c p s)).world
+unfolding run
+run_grows_from c grow w (Give v) s g = g
+run_grows_from c grow w (Throw v) s g = g
+run_grows_from c grow w (Halt stop) s g = g
+run_grows_from c grow w (Turn p) s g = spent_grows w s.meter s (run c p) g (run_grows_from c grow w p)
+run_grows_from c grow w (Ask q k) s g = run_grows_from c grow w (k (reply q s.world)) s g
+run_grows_from c grow w (Do d k) s g = happened_grows w (perform d s.world) s (λ a. run c (k a)) (from (perform d s.world) (perform_grows d s.world)) g (λ a. run_grows_from c grow w (k a))
+  where
+    from : {A : Type 0} (e : Event A) → IfHappens e (λ a v. Grows s.world v) → IfHappens e (λ a v. Grows w v)
+    from (Happens a v) h = grows_trans w s.world v g h
+    from (Stops full) h = tt
+run_grows_from c grow w (Call f this vs n k) s g = returned_grows w (c f this vs n s) (λ v. run c (k v)) (grows_trans w s.world _ g (grow f this vs n s)) (λ v. run_grows_from c grow w (k v))
+run_grows_from c grow w (Try f this vs n k) s g = ended_grows w (c f this vs n s) (λ v. run c (k v)) (grows_trans w s.world _ g (grow f this vs n s)) (λ v. run_grows_from c grow w (k v))
+
+pub run_grows : (c : Calls) → CallsGrow c → (p : Act) (s : State) → Grows s.world (state_of (run c p s)).world
+run_grows c grow p s = run_grows_from c grow s.world p s (grows_refl s.world)

@@ -1,0 +1,116 @@
+-- A small world for the rows, and ways to look at what a run came to.
+use Rattle.std.proofs.Common.{ℕ, Bool, true, cond, List, [], ◌∷◌, Option, Some, None, slice_get, pos, codes, ◌==◌}
+use Rattle.js_value.specs.Value.{Value, Undefined, Number, String, Object, Text}
+use Rattle.js_value.specs.Store.{Thing, AnObject, ObjectRecord, Class, Ordinary, Array, BuiltInFunction, Property, Data, Accessor, Store}
+use Rattle.es_model.specs.State.{World, State, Counts, nothing}
+use Rattle.es_model.specs.Ledger.{Stop}
+use Rattle.es_model.specs.Act.{Act, Ran, Ends, Halts, Calls, NormalCompletion, ThrowCompletion}
+use Rattle.js_value.specs.Store.{object_in, cell_in, mark_in, own_property, with_property, without_property, is_frozen}
+use Rattle.es_model.specs.Act.{run}
+use Rattle.es_model.specs.Conversions.{to_primitive, to_number, to_string, to_property_key, number_expected, text_expected, key_expected, loosely_equal_within, is_loosely_equal}
+use Rattle.es_model.specs.Errors.{make_error, raise, make_text}
+use Rattle.es_model.specs.Events.{reply, perform}
+use Rattle.es_model.specs.InternalMethods.{validate_and_apply_property_descriptor, define_own_property, delete_own_property, prevent_extensions, freeze, longest, property_from, find_property, on_chain, set_prototype_of, set_step, apply_method}
+use Rattle.es_model.specs.Jobs.{fulfil_promise, reject_promise, resolve_promise, create_resolving_functions, call_resolve_function, call_reject_function, make_promise, perform_promise_then, promise_then, run_job, run_first_job}
+use Rattle.es_model.specs.Ledger.{written}
+use Rattle.es_model.specs.PropertyReads.{is_callable, property_value, get, has_property, get_v}
+use Rattle.es_model.specs.PropertyWrites.{define_own_property as define_with_length, define_property_or_throw, create_data_property, create_data_property_or_throw, ordinary_set, set_v, set_or_throw, put_value, delete_property_or_throw, delete_v}
+use Rattle.js_value.specs.Literal.{literal_number, digits_number}
+use Rattle.js_value.specs.Numeral.{is_white_space}
+
+abbrev pub plain : Value → Property
+plain v = record { content = Data v true; enumerable = true; configurable = true }
+
+abbrev pub getter : Value → Property
+getter f = record { content = Accessor f Undefined; enumerable = true; configurable = true }
+
+abbrev pub setter : Value → Property
+setter f = record { content = Accessor Undefined f; enumerable = true; configurable = true }
+
+abbrev pub ordinary : Option ℕ → List (Text × Property) → ObjectRecord
+ordinary prototype named = record { class = Ordinary; prototype = prototype; extensible = true; indexed = []; named = named }
+
+abbrev pub array_of : List (ℕ × Property) → (length : ℕ) → (writable : Bool) → ObjectRecord
+array_of indexed n writable = record { class = Array n writable; prototype = None; extensible = true; indexed = indexed; named = [] }
+
+abbrev pub function : ℕ → ObjectRecord
+function row = record { class = BuiltInFunction row; prototype = None; extensible = true; indexed = []; named = [] }
+
+-- thirteen prototypes of the realm without properties, at 0 to 12, and then these things
+abbrev pub blank : Thing
+blank = AnObject (ordinary None [])
+
+abbrev pub realm_of : List Thing → Store
+realm_of things = blank ∷ blank ∷ blank ∷ blank ∷ blank ∷ blank ∷ blank ∷ blank ∷ blank ∷ blank ∷ blank ∷ blank ∷ blank ∷ things
+
+abbrev pub places : List ℕ
+places = 0 ∷ 1 ∷ 2 ∷ 3 ∷ 4 ∷ 5 ∷ 6 ∷ 7 ∷ 8 ∷ 9 ∷ 10 ∷ 11 ∷ 12 ∷ []
+
+abbrev pub ample : Counts
+ample = record { slots = 1000; units = 1000; names = 1000 }
+
+abbrev pub world_with : Counts → List Thing → List ℕ → World
+world_with room things first_costs = record {
+  store = realm_of things;
+  realm = places;
+  names = codes "length" ∷ codes "a" ∷ codes "b" ∷ codes "then" ∷ [];
+  ledger = record { used = nothing; room = room; first_costs = first_costs };
+  jobs = [];
+  rejections = [];
+  modules = [];
+  trace = [];
+  input = None;
+}
+
+abbrev pub world_of : List Thing → World
+world_of things = world_with ample things []
+
+abbrev pub state_in : World → State
+state_in w = record { world = w; meter = 100; depth = 0 }
+
+-- the built-in functions of these rows: 1 gives its receiver, 2 throws 9, 3 gives 7, any other the text "1"
+abbrev pub row_result : ℕ → (receiver : Value) → State → Ran
+row_result row receiver s = cond (row == 1) (Ends (NormalCompletion receiver) s)
+    (cond (row == 2) (Ends (ThrowCompletion (Number (pos 9))) s)
+    (cond (row == 3) (Ends (NormalCompletion (Number (pos 7))) s) (Ends (NormalCompletion (String (codes "1"))) s)))
+
+abbrev pub class_result : Class → (receiver : Value) → State → Ran
+class_result (BuiltInFunction row) receiver s = row_result row receiver s
+class_result c receiver s = Ends (NormalCompletion Undefined) s
+
+abbrev pub thing_result : Option Thing → (receiver : Value) → State → Ran
+thing_result (Some (AnObject o)) receiver s = class_result o.class receiver s
+thing_result t receiver s = Ends (NormalCompletion Undefined) s
+
+abbrev pub calls : Calls
+calls (Object f) receiver arguments target s = thing_result (slice_get s.world.store f) receiver s
+calls f receiver arguments target s = Ends (NormalCompletion Undefined) s
+
+abbrev pub runs : Act → List Thing → Ran
+runs p things = run calls p (state_in (world_of things))
+
+-- what a run came to
+pub data Came : Type 0 where
+  Gave : Value → Came
+  Threw : Value → Came
+  Stopped : Stop → Came
+
+abbrev pub came : Ran → Came
+came (Ends (NormalCompletion v) s) = Gave v
+came (Ends (ThrowCompletion v) s) = Threw v
+came (Halts stop s) = Stopped stop
+
+abbrev pub world_after : Ran → World
+world_after (Ends c s) = s.world
+world_after (Halts stop s) = s.world
+
+abbrev pub thing_after : Ran → ℕ → Option Thing
+thing_after r n = slice_get (world_after r).store n
+
+abbrev pub used_after : Ran → Counts
+used_after r = (world_after r).ledger.used
+
+-- rows that name this compute through all definitions
+unfoldable pub computing : Unit {0}
+unfolding literal_number digits_number is_white_space object_in cell_in mark_in own_property with_property without_property is_frozen run to_primitive to_number to_string to_property_key number_expected text_expected key_expected loosely_equal_within is_loosely_equal make_error raise make_text reply perform validate_and_apply_property_descriptor define_own_property delete_own_property prevent_extensions freeze longest property_from find_property on_chain set_prototype_of set_step apply_method fulfil_promise reject_promise resolve_promise create_resolving_functions call_resolve_function call_reject_function make_promise perform_promise_then promise_then run_job run_first_job written is_callable property_value get has_property get_v define_with_length define_property_or_throw create_data_property create_data_property_or_throw ordinary_set set_v set_or_throw put_value delete_property_or_throw delete_v
+computing = tt

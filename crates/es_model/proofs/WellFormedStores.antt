@@ -1,0 +1,314 @@
+-- Every deed that speaks of things that stand keeps the world well-formed.
+use Rattle.std.proofs.Common.{◌≡◌, ℕ, ◌+◌, ◌<◌, ◌≤◌, Bool, true, false, cond, not, ◌||◌, List, [], ◌∷◌, ◌++◌, length, set, filter, ◌==◌, arith, refl, sym, ap, ◌∙◌, subst, Option, Some, None, IfSome, slice_get, length-set, length-append}
+use Rattle.js_value.specs.Value.{Text, Named}
+use Rattle.js_value.specs.Store.{Store, Thing, AnObject, ACell, AMark, ObjectRecord, Property, Content, Data, Accessor, Class, Ordinary, Array, ScriptFunction, BuiltInFunction, ResolveFunction, RejectFunction, Error, Promise, PromiseState, Pending, Fulfilled, Rejected, Reaction, object_in, cell_in, mark_in, as_object, as_cell, no_object, own_property, is_length_of, frozen, size}
+use Rattle.js_value.specs.Literal.{digits_number}
+use Rattle.js_value.specs.Order.{IsOrderly}
+use Rattle.js_value.specs.WellFormed.{IfValueBelow, AreNumbersBelow, IsContentBelow, IsStateBelow, IsReactionBelow, AreReactionsBelow, IsClassBelow, IsObjectBelow, IsThingBelow, IsThingOrderly, ChainEnds, IsWellFormed}
+use Rattle.js_value.proofs.Below.{value_more, object_more, if_value_more, numbers_more}
+use Rattle.es_model.specs.State.{World, Ledger, Counts, plus, nothing, some_slots, some_units, Job, FulfilJob, RejectJob, ThenableJob}
+use Rattle.es_model.specs.Ledger.{Happens, Full, charged, charged_unless, passed, written, with_thing, first_cost, with_name, name_added, name_cost, growth}
+use Rattle.es_model.specs.InternalMethods.{Method, DefineOwnProperty, Delete, PreventExtensions, SetPrototypeOf, Freeze, apply_method, set_prototype_of, same_prototype, on_chain, longest, refused, unchanged, wrote, prevent_extensions, freeze}
+use Rattle.es_model.specs.Events.{Deed, perform, Make, Apply, Attach, SetCell, SetMark, Settle, AddReaction, Enqueue, Dequeue, AddRejection, RemoveRejection, MakeText, Write, Take, apply_outcome, settle_class, react_class, dequeue, attached, with_prototype, pointing_to, prototype_name}
+use Rattle.es_model.specs.Laws.{IfHappens, IsMethodBelow, IsDeedBelow, IsJobBelow, AreJobsBelow, IsAnswerBelow, AreReactionAnswersBelow, IsJobAnswerBelow, IsWorldWellFormed}
+use Rattle.es_model.proofs.Chains.{set_keeps, append_keeps, set_chain, append_chain, prototype_chain, cut_chain}
+use Rattle.es_model.proofs.Prototypes.{define_prototype, delete_prototype, with_property_prototype}
+use Rattle.es_model.proofs.Closed.{method_below, own_property_below, with_property_below}
+use Rattle.es_model.proofs.Orderly.{HasKey, method_orderly, with_property_orderly}
+
+-- ---- stores
+
+no_object_orderly : IsOrderly no_object
+no_object_orderly = record { indices = tt; range = tt; length = tt; names = tt; no_index = tt; no_length = tt }
+
+no_object_below : (m : ℕ) → IsObjectBelow m no_object
+no_object_below m = record { class = tt; prototype = tt; indexed = tt; named = tt }
+
+orderly_of : (t : Thing) → IsThingOrderly t → IsOrderly (as_object (Some t))
+orderly_of (AnObject o) h = h
+orderly_of (ACell c) h = no_object_orderly
+orderly_of (AMark b) h = no_object_orderly
+
+object_below_of : (m : ℕ) (t : Thing) → IsThingBelow m t → IsObjectBelow m (as_object (Some t))
+object_below_of m (AnObject o) h = h
+object_below_of m (ACell c) h = no_object_below m
+object_below_of m (AMark b) h = no_object_below m
+
+cell_below_of : (m : ℕ) (t : Thing) → IsThingBelow m t → IfValueBelow m (as_cell (Some t)).value
+cell_below_of m (AnObject o) h = tt
+cell_below_of m (ACell c) h = h
+cell_below_of m (AMark b) h = tt
+
+set_well : (s : Store) (n : ℕ) (t : Thing) → IsWellFormed s → IsThingOrderly t → IsThingBelow (length s) t → ((p : Option ℕ) → ChainEnds s p → ChainEnds (set s n t) p) → IsWellFormed (set s n t)
+unfolding object_in cell_in
+set_well s n t h o b chain = record {
+  orderly = λ k. set_keeps (λ x. IsOrderly (as_object x)) s n k t (orderly_of t o) (h.orderly k);
+  objects = λ k. subst (λ m. IsObjectBelow m (as_object (slice_get (set s n t) k))) (sym (length-set s n t)) (set_keeps (λ x. IsObjectBelow (length s) (as_object x)) s n k t (object_below_of (length s) t b) (h.objects k));
+  cells = λ k. subst (λ m. IfValueBelow m (as_cell (slice_get (set s n t) k)).value) (sym (length-set s n t)) (set_keeps (λ x. IfValueBelow (length s) (as_cell x).value) s n k t (cell_below_of (length s) t b) (h.cells k));
+  chains = λ k. chain (Some k) (h.chains k);
+}
+
+append_well : (s : Store) (t : Thing) → IsWellFormed s → IsThingOrderly t → IsThingBelow (length s) t → IsWellFormed (s ++ t ∷ [])
+unfolding object_in cell_in
+append_well s t h o b =
+    let long : length (s ++ t ∷ []) ≡ length s + 1 = length-append s (t ∷ []) in
+    let le : length s ≤ length (s ++ t ∷ []) = omega (arith, long) in
+    record {
+      orderly = λ k. append_keeps (λ x. IsOrderly (as_object x)) s k t (orderly_of t o) no_object_orderly (h.orderly k);
+      objects = λ k. append_keeps (λ x. IsObjectBelow (length (s ++ t ∷ [])) (as_object x)) s k t (object_more (length s) (length (s ++ t ∷ [])) le (as_object (Some t)) (object_below_of (length s) t b)) (no_object_below (length (s ++ t ∷ []))) (object_more (length s) (length (s ++ t ∷ [])) le (object_in s k) (h.objects k));
+      cells = λ k. append_keeps (λ x. IfValueBelow (length (s ++ t ∷ [])) (as_cell x).value) s k t (if_value_more (length s) (length (s ++ t ∷ [])) le (as_cell (Some t)).value (cell_below_of (length s) t b)) tt (if_value_more (length s) (length (s ++ t ∷ [])) le (cell_in s k).value (h.cells k));
+      chains = append_chain s t (λ n. (h.objects n).prototype) h.chains (object_below_of (length s) t b).prototype;
+    }
+
+-- ---- worlds
+
+jobs_more : (m k : ℕ) → m ≤ k → (jobs : List Job) → AreJobsBelow m jobs → AreJobsBelow k jobs
+jobs_more m k le [] h = tt
+jobs_more m k le (job ∷ jobs) h = (one job h.0, jobs_more m k le jobs h.1)
+  where
+    one : (j : Job) → IsJobBelow m j → IsJobBelow k j
+    one (FulfilJob a d v) b = (value_more m k le a b.0, omega (arith, b.1), value_more m k le v b.2)
+    one (RejectJob a d v) b = (value_more m k le a b.0, omega (arith, b.1), value_more m k le v b.2)
+    one (ThenableJob p t f) b = (omega (arith, b.0), value_more m k le t b.1, value_more m k le f b.2)
+
+ledger_well : (w : World) (l : Ledger) → IsWorldWellFormed w → IsWorldWellFormed (record w { ledger = l })
+ledger_well w l h = record { store = h.store; jobs = h.jobs; rejections = h.rejections; realm = h.realm; not_empty = h.not_empty }
+
+name_well : (w : World) (name : Option Text) → IsWorldWellFormed w → IsWorldWellFormed (with_name name w)
+name_well w None h = h
+name_well w (Some t) h = record { store = h.store; jobs = h.jobs; rejections = h.rejections; realm = h.realm; not_empty = h.not_empty }
+
+-- a world with another store of no fewer things
+store_well : (w : World) (s : Store) → length w.store ≤ length s → IsWorldWellFormed w → IsWellFormed s → IsWorldWellFormed (record w { store = s })
+store_well w s le h g = record {
+  store = g;
+  jobs = jobs_more (length w.store) (length s) le w.jobs h.jobs;
+  rejections = numbers_more (length w.store) (length s) le w.rejections h.rejections;
+  realm = numbers_more (length w.store) (length s) le w.realm h.realm;
+  not_empty = let e = h.not_empty in omega arith;
+}
+
+set_le : (s : Store) (n : ℕ) (t : Thing) → length s ≤ length (set s n t)
+set_le s n t = let e = length-set s n t in omega arith
+
+-- ---- events
+
+charged_well : {A : Type 0} (P : A → World → Type 0) (price : Counts) (a : A) (v : World) → ((l : Ledger) → P a (record v { ledger = l })) → IfHappens (charged price a v) P
+charged_well P price a v h = by_stop (passed (plus v.ledger.used price) v.ledger.room)
+  where
+    by_stop : (o : Option Full) → IfHappens (charged_unless o a (record v { ledger = record v.ledger { used = plus v.ledger.used price } })) P
+    by_stop None = h (record v.ledger { used = plus v.ledger.used price })
+    by_stop (Some full) = tt
+
+written_well : {A : Type 0} (P : A → World → Type 0) (v : World) (n : ℕ) (before after : Thing) (p : Counts) (a : A) → P a v → ((l : Ledger) → P a (record v { store = set v.store n after; ledger = l })) → IfHappens (written v n before after p a) P
+unfolding written
+written_well P v n before after p a same h = by_test (frozen before)
+  where
+    by_test : (b : Bool) → IfHappens (cond b (Happens a v) (charged (plus (first_cost v n) p) a (with_thing v n after))) P
+    by_test true = same
+    by_test false = charged_well P (plus (first_cost v n) p) a (with_thing v n after) h
+
+-- ---- methods
+
+chain_of : (s : Store) (n : ℕ) (after : Option ObjectRecord) → IfSome after (λ o. o.prototype ≡ (object_in s n).prototype) → IfSome after (λ o. (p : Option ℕ) → ChainEnds s p → ChainEnds (set s n (AnObject o)) p)
+chain_of s n None e = tt
+chain_of s n (Some o) e = set_chain s n (AnObject o) e
+
+method_chain : (m : Method) (s : Store) (n : ℕ) → IfSome (apply_method m s n (object_in s n)).written (λ o. (p : Option ℕ) → ChainEnds s p → ChainEnds (set s n (AnObject o)) p)
+unfolding apply_method set_prototype_of prevent_extensions freeze
+method_chain (DefineOwnProperty key d) s n = chain_of s n _ (define_prototype (object_in s n) key d)
+method_chain (Delete key) s n = chain_of s n _ (delete_prototype (object_in s n) key)
+method_chain PreventExtensions s n = set_chain s n _ refl
+method_chain Freeze s n = set_chain s n _ refl
+method_chain (SetPrototypeOf v) s n = by_same (same_prototype v (object_in s n).prototype)
+  where
+    after : ObjectRecord
+    after = record (object_in s n) { prototype = v }
+
+    Keeps : ObjectRecord → Type 0
+    Keeps o = (p : Option ℕ) → ChainEnds s p → ChainEnds (set s n (AnObject o)) p
+
+    by_chain : (a b : Bool) → on_chain longest s n v ≡ b → IfSome (cond (a || b) refused (wrote after)).written Keeps
+    by_chain true b e = tt
+    by_chain false true e = tt
+    by_chain false false e = prototype_chain s n (AnObject after) e
+
+    by_same : (b : Bool) → IfSome (cond b unchanged (cond (not (object_in s n).extensible || on_chain longest s n v) refused (wrote after))).written Keeps
+    by_same true = tt
+    by_same false = by_chain (not (object_in s n).extensible) (on_chain longest s n v) refl
+
+has_key : (k : ℕ) (m : Method) → IsMethodBelow k m → HasKey m
+has_key k (DefineOwnProperty key d) b = b.0
+has_key k (Delete key) b = tt
+has_key k PreventExtensions b = tt
+has_key k (SetPrototypeOf v) b = tt
+has_key k Freeze b = tt
+
+apply_well : (w : World) (n : ℕ) (m : Method) (before : ObjectRecord) (answer : Bool) (after : Option ObjectRecord) → IsWorldWellFormed w → IfSome after IsOrderly → IfSome after (IsObjectBelow (length w.store)) → IfSome after (λ o. (p : Option ℕ) → ChainEnds w.store p → ChainEnds (set w.store n (AnObject o)) p)
+    → IfHappens (apply_outcome w n m before answer after) (λ a v. IsWorldWellFormed v × (Unit {0}))
+apply_well w n m before answer None h o b c = (h, tt)
+apply_well w n m before answer (Some after) h o b c =
+    let name : Option Text = name_added w m before after in
+    let store : IsWellFormed (set w.store n (AnObject after)) = set_well w.store n (AnObject after) h.store o b c in
+    written_well (λ a v. IsWorldWellFormed v × (Unit {0})) (with_name name w) n (AnObject before) (AnObject after) (plus (growth before after) (name_cost m name)) answer
+    (name_well w name h, tt) (λ l. (by_name name l store, tt))
+  where
+    by_name : (name : Option Text) (l : Ledger) → IsWellFormed (set w.store n (AnObject after)) → IsWorldWellFormed (record (with_name name w) { store = set (with_name name w).store n (AnObject after); ledger = l })
+    by_name None l g = ledger_well (record w { store = set w.store n (AnObject after) }) l (store_well w (set w.store n (AnObject after)) (set_le w.store n (AnObject after)) h g)
+    by_name (Some t) l g = ledger_well (record w { store = set w.store n (AnObject after); names = w.names ++ t ∷ [] }) l (name_well (record w { store = set w.store n (AnObject after) }) (Some t) (store_well w (set w.store n (AnObject after)) (set_le w.store n (AnObject after)) h g))
+
+-- ---- promises
+
+promise_orderly : (o : ObjectRecord) (state : PromiseState) (reactions : List Reaction) → IsOrderly o → IsOrderly (record o { class = Promise state reactions })
+promise_orderly o state reactions h = record { indices = h.indices; range = h.range; length = tt; names = h.names; no_index = h.no_index; no_length = tt }
+
+promise_below : (m : ℕ) (o : ObjectRecord) (state : PromiseState) (reactions : List Reaction) → IsStateBelow m state → AreReactionsBelow m reactions → IsObjectBelow m o → IsObjectBelow m (record o { class = Promise state reactions })
+promise_below m o state reactions s r h = record { class = (s, r); prototype = h.prototype; indexed = h.indexed; named = h.named }
+
+promise_set : (w : World) (n : ℕ) (state : PromiseState) (reactions : List Reaction) → IsWorldWellFormed w → IsStateBelow (length w.store) state → AreReactionsBelow (length w.store) reactions → (l : Ledger)
+    → IsWorldWellFormed (record w { store = set w.store n (AnObject (record (object_in w.store n) { class = Promise state reactions })); ledger = l })
+promise_set w n state reactions h s r l =
+    let o : ObjectRecord = object_in w.store n in
+    let t : Thing = AnObject (record o { class = Promise state reactions }) in
+    ledger_well (record w { store = set w.store n t }) l
+    (store_well w (set w.store n t) (set_le w.store n t) h
+    (set_well w.store n t h.store (promise_orderly o state reactions (h.store.orderly n)) (promise_below (length w.store) o state reactions s r (h.store.objects n)) (set_chain w.store n t refl)))
+
+settle_well : (w : World) (n : ℕ) (state : PromiseState) (c : Class) → IsWorldWellFormed w → IsStateBelow (length w.store) state → IsClassBelow (length w.store) c → IfHappens (settle_class w n state (object_in w.store n) c) (λ a v. IsWorldWellFormed v × AreReactionAnswersBelow (length v.store) a)
+settle_well w n state (Promise Pending reactions) h s b =
+    let t : Thing = AnObject (record (object_in w.store n) { class = Promise state [] }) in
+    written_well (λ a v. IsWorldWellFormed v × AreReactionAnswersBelow (length v.store) a) w n (AnObject (object_in w.store n)) t nothing (Some reactions) (h, b.1)
+    (λ l. (promise_set w n state [] h s tt l, subst (λ m. AreReactionsBelow m reactions) (sym (length-set w.store n t)) b.1))
+settle_well w n state (Promise (Fulfilled v) reactions) h s b = (h, tt)
+settle_well w n state (Promise (Rejected v) reactions) h s b = (h, tt)
+settle_well w n state Ordinary h s b = (h, tt)
+settle_well w n state (Array k e) h s b = (h, tt)
+settle_well w n state (ScriptFunction m f g cs) h s b = (h, tt)
+settle_well w n state (BuiltInFunction row) h s b = (h, tt)
+settle_well w n state (ResolveFunction p m) h s b = (h, tt)
+settle_well w n state (RejectFunction p m) h s b = (h, tt)
+settle_well w n state Error h s b = (h, tt)
+
+reactions_append : (m : ℕ) (rs : List Reaction) (r : Reaction) → AreReactionsBelow m rs → IsReactionBelow m r → AreReactionsBelow m (rs ++ r ∷ [])
+reactions_append m [] r h b = (b, tt)
+reactions_append m (q ∷ rs) r h b = (h.0, reactions_append m rs r h.1 b)
+
+react_well : (w : World) (n : ℕ) (r : Reaction) (c : Class) → IsWorldWellFormed w → IsReactionBelow (length w.store) r → IsClassBelow (length w.store) c → IfHappens (react_class w n r (object_in w.store n) c) (λ a v. IsWorldWellFormed v × (Unit {0}))
+react_well w n r (Promise Pending reactions) h q b =
+    let o : ObjectRecord = object_in w.store n in
+    let after : ObjectRecord = record o { class = Promise Pending (reactions ++ r ∷ []) } in
+    written_well (λ a v. IsWorldWellFormed v × (Unit {0})) w n (AnObject o) (AnObject after) (growth o after) tt (h, tt)
+    (λ l. (promise_set w n Pending (reactions ++ r ∷ []) h tt (reactions_append (length w.store) reactions r b.1 q) l, tt))
+react_well w n r (Promise (Fulfilled v) reactions) h q b = (h, tt)
+react_well w n r (Promise (Rejected v) reactions) h q b = (h, tt)
+react_well w n r Ordinary h q b = (h, tt)
+react_well w n r (Array k e) h q b = (h, tt)
+react_well w n r (ScriptFunction m f g cs) h q b = (h, tt)
+react_well w n r (BuiltInFunction row) h q b = (h, tt)
+react_well w n r (ResolveFunction p m) h q b = (h, tt)
+react_well w n r (RejectFunction p m) h q b = (h, tt)
+react_well w n r Error h q b = (h, tt)
+
+-- ---- cells and marks
+
+other_set : (w : World) (n : ℕ) (t : Thing) → IsWorldWellFormed w → IsThingOrderly t → IsThingBelow (length w.store) t → (as_object (Some t)).prototype ≡ None → (l : Ledger) → IsWorldWellFormed (record w { store = set w.store n t; ledger = l })
+other_set w n t h o b e l =
+    ledger_well (record w { store = set w.store n t }) l (store_well w (set w.store n t) (set_le w.store n t) h (set_well w.store n t h.store o b (cut_chain w.store n t e)))
+
+other_well : (w : World) (n : ℕ) (before after : Thing) (p : Counts) → IsWorldWellFormed w → IsThingOrderly after → IsThingBelow (length w.store) after → (as_object (Some after)).prototype ≡ None → IfHappens {A = Unit {0}} (written w n before after p tt) (λ a v. IsWorldWellFormed v × (Unit {0}))
+other_well w n before after p h o b e = written_well {A = Unit {0}} (λ a v. IsWorldWellFormed v × (Unit {0})) w n before after p tt (h, tt) (λ l. (other_set w n after h o b e l, tt))
+
+-- ---- a function's `prototype`
+
+no_length : (c : Class) → is_length_of c prototype_name ≡ false
+no_length (Array n w) = refl
+no_length c = refl
+
+pointing_below : (m p : ℕ) (c : Content) → p < m → IsContentBelow m c → IsContentBelow m (pointing_to p c)
+pointing_below m p (Data v w) l h = l
+pointing_below m p (Accessor g s) l h = h
+
+with_prototype_orderly : (p : ℕ) (o : ObjectRecord) (q : Option Property) → IsOrderly o → IsOrderly (with_prototype p o q)
+unfolding digits_number
+with_prototype_orderly p o None h = h
+with_prototype_orderly p o (Some q) h = with_property_orderly o prototype_name (record q { content = pointing_to p q.content }) refl (no_length o.class) h
+
+with_prototype_below : (m p : ℕ) (o : ObjectRecord) (q : Option Property) → p < m → IfSome q (λ r. IsContentBelow m r.content) → IsObjectBelow m o → IsObjectBelow m (with_prototype p o q)
+with_prototype_below m p o None l c h = h
+with_prototype_below m p o (Some q) l c h = with_property_below m o (Named prototype_name) (record q { content = pointing_to p q.content }) (pointing_below m p q.content l c) h
+
+with_prototype_same : (p : ℕ) (o : ObjectRecord) (q : Option Property) → (with_prototype p o q).prototype ≡ o.prototype
+with_prototype_same p o None = refl
+with_prototype_same p o (Some q) = with_property_prototype o (Named prototype_name) (record q { content = pointing_to p q.content })
+
+attach_well : (w : World) (f p : ℕ) (t : Option Thing) → slice_get w.store f ≡ t → p < length w.store → IsWorldWellFormed w → IsWorldWellFormed (record w { store = attached p t w.store f })
+unfolding object_in
+attach_well w f p (Some (AnObject o)) e l h =
+    let here : object_in w.store f ≡ o = ap as_object e in
+    let q : Option Property = own_property o (Named prototype_name) in
+    let orderly : IsOrderly o = subst IsOrderly here (h.store.orderly f) in
+    let below : IsObjectBelow (length w.store) o = subst (IsObjectBelow (length w.store)) here (h.store.objects f) in
+    let after : Thing = AnObject (with_prototype p o q) in
+    store_well w (set w.store f after) (set_le w.store f after) h
+    (set_well w.store f after h.store (with_prototype_orderly p o q orderly)
+    (with_prototype_below (length w.store) p o q l (own_property_below (length w.store) o (Named prototype_name) below) below)
+    (set_chain w.store f after (with_prototype_same p o q ∙ ap (λ (x : ObjectRecord). x.prototype) (sym here))))
+attach_well w f p (Some (ACell c)) e l h = h
+attach_well w f p (Some (AMark b)) e l h = h
+attach_well w f p None e l h = h
+
+-- ---- jobs and rejections
+
+jobs_append : (m : ℕ) (jobs : List Job) (job : Job) → AreJobsBelow m jobs → IsJobBelow m job → AreJobsBelow m (jobs ++ job ∷ [])
+jobs_append m [] job h b = (b, tt)
+jobs_append m (j ∷ jobs) job h b = (h.0, jobs_append m jobs job h.1 b)
+
+numbers_append : (m : ℕ) (ns : List ℕ) (n : ℕ) → AreNumbersBelow m ns → n < m → AreNumbersBelow m (ns ++ n ∷ [])
+numbers_append m [] n h b = (b, tt)
+numbers_append m (k ∷ ns) n h b = (h.0, numbers_append m ns n h.1 b)
+
+numbers_filter : (m : ℕ) (test : ℕ → Bool) (ns : List ℕ) → AreNumbersBelow m ns → AreNumbersBelow m (filter test ns)
+numbers_filter m test [] h = tt
+numbers_filter m test (n ∷ ns) h = by_test (test n) (numbers_filter m test ns h.1)
+  where
+    by_test : (b : Bool) → AreNumbersBelow m (filter test ns) → AreNumbersBelow m (cond b (n ∷ filter test ns) (filter test ns))
+    by_test true rest = (h.0, rest)
+    by_test false rest = rest
+
+jobs_well : (w : World) (jobs : List Job) (l : Ledger) → IsWorldWellFormed w → AreJobsBelow (length w.store) jobs → IsWorldWellFormed (record w { jobs = jobs; ledger = l })
+jobs_well w jobs l h b = record { store = h.store; jobs = b; rejections = h.rejections; realm = h.realm; not_empty = h.not_empty }
+
+dequeue_well : (w : World) (jobs : List Job) → IsWorldWellFormed w → AreJobsBelow (length w.store) jobs → IfHappens (dequeue jobs w) (λ a v. IsWorldWellFormed v × IsJobAnswerBelow (length v.store) a)
+dequeue_well w [] h b = (h, tt)
+dequeue_well w (job ∷ jobs) h b = (jobs_well w jobs w.ledger h b.1, b.0)
+
+rejections_well : (w : World) (ns : List ℕ) → IsWorldWellFormed w → AreNumbersBelow (length w.store) ns → IsWorldWellFormed (record w { rejections = ns })
+rejections_well w ns h b = record { store = h.store; jobs = h.jobs; rejections = b; realm = h.realm; not_empty = h.not_empty }
+
+-- ---- all deeds
+
+pub perform_well : (d : Deed) (w : World) → IsWorldWellFormed w → IsDeedBelow (length w.store) d → IfHappens (perform d w) (λ a v. IsWorldWellFormed v × IsAnswerBelow (length v.store) d a)
+unfolding perform
+perform_well (Make t) w h b =
+    let s : Store = w.store ++ t ∷ [] in
+    let long : length s ≡ length w.store + 1 = length-append w.store (t ∷ []) in
+    charged_well (λ a v. IsWorldWellFormed v × (a < length v.store)) (some_slots (size t)) (length w.store) (record w { store = s })
+    (λ l. (ledger_well (record w { store = s }) l (store_well w s (omega (arith, long)) h (append_well w.store t h.store b.1 b.0)), omega (arith, long)))
+perform_well (Apply n m) w h b =
+    let before : ObjectRecord = object_in w.store n in
+    apply_well w n m before (apply_method m w.store n before).answer (apply_method m w.store n before).written h
+    (method_orderly m w.store n before (has_key (length w.store) m b) (h.store.orderly n))
+    (method_below (length w.store) m w.store n before b (h.store.objects n))
+    (method_chain m w.store n)
+perform_well (Attach f p) w h b = (attach_well w f p (slice_get w.store f) refl b h, tt)
+perform_well (SetCell n v) w h b = other_well w n (ACell (cell_in w.store n)) (ACell (record { value = Some v; const = (cell_in w.store n).const })) nothing h tt b refl
+perform_well (SetMark n) w h b = other_well w n (AMark (mark_in w.store n)) (AMark true) nothing h tt tt refl
+perform_well (Settle n state) w h b = settle_well w n state (object_in w.store n).class h b (h.store.objects n).class
+perform_well (AddReaction n r) w h b = react_well w n r (object_in w.store n).class h b (h.store.objects n).class
+perform_well (Enqueue job) w h b = charged_well (λ a v. IsWorldWellFormed v × (Unit {0})) (some_slots 4) tt (record w { jobs = w.jobs ++ job ∷ [] }) (λ l. (jobs_well w (w.jobs ++ job ∷ []) l h (jobs_append (length w.store) w.jobs job h.jobs b), tt))
+perform_well Dequeue w h b = dequeue_well w w.jobs h h.jobs
+perform_well (AddRejection n) w h b = (rejections_well w (w.rejections ++ n ∷ []) h (numbers_append (length w.store) w.rejections n h.rejections b), tt)
+perform_well (RemoveRejection n) w h b = (rejections_well w (filter (λ m. not (m == n)) w.rejections) h (numbers_filter (length w.store) (λ m. not (m == n)) w.rejections h.rejections), tt)
+perform_well (MakeText units) w h b = charged_well (λ a v. IsWorldWellFormed v × (Unit {0})) (some_units units) tt w (λ l. (ledger_well w l h, tt))
+perform_well (Write bytes) w h b = (record { store = h.store; jobs = h.jobs; rejections = h.rejections; realm = h.realm; not_empty = h.not_empty }, tt)
+perform_well (Take line left) w h b = (record { store = h.store; jobs = h.jobs; rejections = h.rejections; realm = h.realm; not_empty = h.not_empty }, tt)

@@ -1,0 +1,98 @@
+-- No count ever passes its limit.
+use Rattle.std.proofs.Common.{◌≡◌, ℕ, Bool, true, false, cond, List, [], ◌∷◌, ◌++◌, length, nat_lt, arith, refl, Option, Some, None}
+use Rattle.std.proofs.lemmas.Bool.Decides.{nat_tests}
+use Rattle.js_value.specs.Value.{Text}
+use Rattle.js_value.specs.Store.{Thing, AnObject, ACell, AMark, ObjectRecord, Class, Promise, PromiseState, Pending, Fulfilled, Rejected, Ordinary, Array, ScriptFunction, BuiltInFunction, ResolveFunction, RejectFunction, Error, Reaction, frozen, size, object_in, cell_in, mark_in}
+use Rattle.es_model.specs.State.{World, Counts, plus, nothing, some_slots, some_units, Job}
+use Rattle.es_model.specs.Ledger.{Event, Happens, Slots, Units, Names, charged, charged_unless, written, with_thing, first_cost, with_name, name_added, name_cost, growth}
+use Rattle.es_model.specs.InternalMethods.{Method, apply_method}
+use Rattle.es_model.specs.Events.{Deed, perform, Make, Apply, Attach, SetCell, SetMark, Settle, AddReaction, Enqueue, Dequeue, AddRejection, RemoveRejection, MakeText, Write, Take, apply_outcome, settle_class, react_class, dequeue}
+use Rattle.es_model.specs.Laws.{IfHappens, IsWithinRoom}
+
+Within : {A : Type 0} → Event A → Type 0
+Within e = IfHappens e (λ a v. IsWithinRoom v.ledger)
+
+charged_within : {A : Type 0} (price : Counts) (a : A) (v : World) → Within (charged price a v)
+unfolding Within
+charged_within {A} price a v = by_units (nat_lt v.ledger.room.units used.units) (nat_lt v.ledger.room.names used.names) (nat_lt v.ledger.room.slots used.slots) refl refl refl
+  where
+    used : Counts
+    used = plus v.ledger.used price
+
+    by_units : (b c d : Bool) → nat_lt v.ledger.room.units used.units ≡ b → nat_lt v.ledger.room.names used.names ≡ c → nat_lt v.ledger.room.slots used.slots ≡ d
+        → IfHappens (charged_unless (cond b (Some Units) (cond c (Some Names) (cond d (Some Slots) None))) a (record v { ledger = record v.ledger { used = used } })) (λ a v. IsWithinRoom v.ledger)
+    by_units true c d p q r = tt
+    by_units false true d p q r = tt
+    by_units false false true p q r = tt
+    by_units false false false p q r = record { slots = grind (arith, nat_tests); units = grind (arith, nat_tests); names = grind (arith, nat_tests) }
+
+written_within : {A : Type 0} (v : World) (n : ℕ) (before after : Thing) (p : Counts) (a : A) → IsWithinRoom v.ledger → Within (written v n before after p a)
+unfolding written Within
+written_within v n before after p a h = by_test (frozen before)
+  where
+    by_test : (b : Bool) → IfHappens (cond b (Happens a v) (charged (plus (first_cost v n) p) a (with_thing v n after))) (λ a v. IsWithinRoom v.ledger)
+    by_test true = h
+    by_test false = charged_within (plus (first_cost v n) p) a (with_thing v n after)
+
+name_within : (w : World) (name : Option Text) → IsWithinRoom w.ledger → IsWithinRoom (with_name name w).ledger
+name_within w None h = h
+name_within w (Some t) h = h
+
+apply_within : (w : World) (n : ℕ) (m : Method) (before : ObjectRecord) (answer : Bool) (after : Option ObjectRecord) → IsWithinRoom w.ledger → Within (apply_outcome w n m before answer after)
+unfolding Within
+apply_within w n m before answer None h = h
+apply_within w n m before answer (Some after) h =
+    let name : Option Text = name_added w m before after in
+    written_within (with_name name w) n (AnObject before) (AnObject after) (plus (growth before after) (name_cost m name)) answer (name_within w name h)
+
+settle_within : (w : World) (n : ℕ) (state : PromiseState) (o : ObjectRecord) (c : Class) → IsWithinRoom w.ledger → Within (settle_class w n state o c)
+unfolding Within
+settle_within w n state o (Promise Pending reactions) h = written_within w n (AnObject o) (AnObject (record o { class = Promise state [] })) nothing (Some reactions) h
+settle_within w n state o (Promise (Fulfilled v) reactions) h = h
+settle_within w n state o (Promise (Rejected v) reactions) h = h
+settle_within w n state o Ordinary h = h
+settle_within w n state o (Array l b) h = h
+settle_within w n state o (ScriptFunction m f g cs) h = h
+settle_within w n state o (BuiltInFunction row) h = h
+settle_within w n state o (ResolveFunction p m) h = h
+settle_within w n state o (RejectFunction p m) h = h
+settle_within w n state o Error h = h
+
+react_within : (w : World) (n : ℕ) (r : Reaction) (o : ObjectRecord) (c : Class) → IsWithinRoom w.ledger → Within (react_class w n r o c)
+unfolding Within
+react_within w n r o (Promise Pending reactions) h =
+    let after : ObjectRecord = record o { class = Promise Pending (reactions ++ r ∷ []) } in
+    written_within w n (AnObject o) (AnObject after) (growth o after) tt h
+react_within w n r o (Promise (Fulfilled v) reactions) h = h
+react_within w n r o (Promise (Rejected v) reactions) h = h
+react_within w n r o Ordinary h = h
+react_within w n r o (Array l b) h = h
+react_within w n r o (ScriptFunction m f g cs) h = h
+react_within w n r o (BuiltInFunction row) h = h
+react_within w n r o (ResolveFunction p m) h = h
+react_within w n r o (RejectFunction p m) h = h
+react_within w n r o Error h = h
+
+dequeue_within : (jobs : List Job) (w : World) → IsWithinRoom w.ledger → Within (dequeue jobs w)
+unfolding Within
+dequeue_within [] w h = h
+dequeue_within (j ∷ jobs) w h = h
+
+pub perform_within : (d : Deed) (w : World) → IsWithinRoom w.ledger → IfHappens (perform d w) (λ a v. IsWithinRoom v.ledger)
+unfolding perform Within
+perform_within (Make t) w h = charged_within (some_slots (size t)) (length w.store) (record w { store = w.store ++ t ∷ [] })
+perform_within (Apply n m) w h =
+    let before : ObjectRecord = object_in w.store n in
+    apply_within w n m before (apply_method m w.store n before).answer (apply_method m w.store n before).written h
+perform_within (Attach f p) w h = h
+perform_within (SetCell n v) w h = written_within w n (ACell (cell_in w.store n)) (ACell (record { value = Some v; const = (cell_in w.store n).const })) nothing tt h
+perform_within (SetMark n) w h = written_within w n (AMark (mark_in w.store n)) (AMark true) nothing tt h
+perform_within (Settle n state) w h = settle_within w n state (object_in w.store n) (object_in w.store n).class h
+perform_within (AddReaction n r) w h = react_within w n r (object_in w.store n) (object_in w.store n).class h
+perform_within (Enqueue job) w h = charged_within (some_slots 4) tt (record w { jobs = w.jobs ++ job ∷ [] })
+perform_within Dequeue w h = dequeue_within w.jobs w h
+perform_within (AddRejection n) w h = h
+perform_within (RemoveRejection n) w h = h
+perform_within (MakeText units) w h = charged_within (some_units units) tt w
+perform_within (Write bytes) w h = h
+perform_within (Take line left) w h = h

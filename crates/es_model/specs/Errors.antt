@@ -1,0 +1,61 @@
+-- Throwing one of the engine's errors, and making a text.
+use Rattle.std.specs.Prelude.{ℕ, true, false, cond, [], ◌∷◌, length, nat_lt, Some, codes}
+use Rattle.js_value.specs.Value.{Value, Object, String, Text}
+use Rattle.js_value.specs.Store.{AnObject, ObjectRecord, Error, Property, Data}
+use Rattle.es_model.specs.Messages.{Message, StringTooLong, ErrorKind, RangeError, ReferenceError, TypeError, kind_of_message, text_of_message}
+use Rattle.es_model.specs.Events.{TheIntrinsic, Make, MakeText}
+use Rattle.es_model.specs.Act.{Act, Throw, Ask, Do}
+
+-- ---- the intrinsic objects that are named here, by their places in the realm (ECMA-262 6.1.7.4)
+
+abbrev pub object_prototype : ℕ
+object_prototype = 0
+
+abbrev pub function_prototype : ℕ
+function_prototype = 1
+
+abbrev pub boolean_prototype : ℕ
+boolean_prototype = 7
+
+abbrev pub number_prototype : ℕ
+number_prototype = 8
+
+abbrev pub promise_prototype : ℕ
+promise_prototype = 10
+
+abbrev pub string_prototype : ℕ
+string_prototype = 11
+
+abbrev pub array_prototype : ℕ
+array_prototype = 12
+
+abbrev pub error_prototype : ErrorKind → ℕ
+error_prototype RangeError = 3
+error_prototype ReferenceError = 4
+error_prototype TypeError = 6
+
+-- ---- errors (20.5)
+
+-- writable and configurable, and not enumerable
+abbrev pub hidden : Value → Property
+hidden v = record { content = Data v true; enumerable = false; configurable = true }
+
+abbrev pub message_name : Text
+message_name = codes "message"
+
+abbrev pub error_record : (prototype : ℕ) → Text → ObjectRecord
+error_record prototype text = record { class = Error; prototype = Some prototype; extensible = true; indexed = []; named = (message_name, hidden (String text)) ∷ [] }
+
+unfoldable pub make_error : Message → (ℕ → Act) → Act
+make_error m k = Ask (TheIntrinsic (error_prototype (kind_of_message m))) (λ p. Do (Make (AnObject (error_record p (text_of_message m)))) k)
+
+unfoldable pub raise : Message → Act
+raise m = make_error m (λ e. Throw (Object e))
+
+-- ---- made texts (own)
+
+abbrev pub longest_text : ℕ
+longest_text = 1048576
+
+unfoldable pub make_text : Text → (Value → Act) → Act
+make_text t k = cond (nat_lt longest_text (length t)) (raise StringTooLong) (Do (MakeText (length t)) (λ _. k (String t)))

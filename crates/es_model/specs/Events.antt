@@ -1,0 +1,139 @@
+-- What operations may ask of the world and do to it. Each deed is one event of the ledger.
+use Rattle.std.specs.Prelude.{ℕ, Bool, true, not, List, [], ◌∷◌, ◌++◌, length, ◌==◌, Option, Some, None, get_or, set, slice_get, filter, codes}
+use Rattle.js_value.specs.Value.{Value, Object, Text, Key, Named}
+use Rattle.js_value.specs.Store.{Store, Thing, AnObject, ACell, AMark, ObjectRecord, CellRecord, Property, Content, Data, Accessor, Class, Promise, PromiseState, Pending, Reaction, object_in, cell_in, mark_in, own_property, with_property, size}
+use Rattle.es_model.specs.State.{World, nothing, some_slots, some_units, plus, Job, Wrote, Took}
+use Rattle.es_model.specs.InternalMethods.{Method, apply_method, find_property, SetStep, set_step}
+use Rattle.es_model.specs.Ledger.{Event, Happens, charged, written, with_name, name_added, name_cost, growth}
+
+-- ---- questions
+
+pub data Question : Type 0 where
+  TheObject : ℕ → Question
+  TheCell : ℕ → Question
+  TheMark : ℕ → Question
+  TheProperty : Key → ℕ → Question  -- on the object or along its prototype chain
+  TheSetStep : Key → Value → (receiver : Value) → (found : Option Property) → Question
+  TheIntrinsic : ℕ → Question  -- the realm's thing at a place
+  TheInput : Question  -- the bytes that are left, where there is a host
+
+abbrev pub Reply : Question → Type 0
+Reply (TheObject n) = ObjectRecord
+Reply (TheCell n) = CellRecord
+Reply (TheMark n) = Bool
+Reply (TheProperty key n) = Option Property
+Reply (TheSetStep key v receiver found) = SetStep
+Reply (TheIntrinsic at) = ℕ
+Reply TheInput = Option (List ℕ)
+
+unfoldable pub reply : (q : Question) → World → Reply q
+reply (TheObject n) w = object_in w.store n
+reply (TheCell n) w = cell_in w.store n
+reply (TheMark n) w = mark_in w.store n
+reply (TheProperty key n) w = find_property w.store key n
+reply (TheSetStep key v receiver found) w = set_step w.store key v receiver found
+reply (TheIntrinsic at) w = get_or w.realm at 0
+reply TheInput w = w.input
+
+-- ---- deeds
+
+pub data Deed : Type 0 where
+  Make : Thing → Deed  -- a new thing
+  Apply : ℕ → Method → Deed  -- an internal method on an object
+  Attach : (function prototype : ℕ) → Deed  -- gives a function that is being made its `prototype`
+  SetCell : ℕ → Value → Deed
+  SetMark : ℕ → Deed
+  Settle : ℕ → PromiseState → Deed  -- a promise that is pending
+  AddReaction : ℕ → Reaction → Deed  -- to a promise that is pending
+  Enqueue : Job → Deed
+  Dequeue : Deed
+  AddRejection : ℕ → Deed
+  RemoveRejection : ℕ → Deed
+  MakeText : (units : ℕ) → Deed
+  Write : List ℕ → Deed
+  Take : (line : Text) → (left : List ℕ) → Deed
+
+abbrev pub Answer : Deed → Type 0
+Answer (Make t) = ℕ
+Answer (Apply n m) = Bool
+Answer (Settle n state) = Option (List Reaction)
+Answer Dequeue = Option Job
+Answer _ = Unit {0}
+
+-- a new thing is named by the next place
+abbrev pub make : Thing → World → Event ℕ
+make t w = charged (some_slots (size t)) (length w.store) (record w { store = w.store ++ t ∷ [] })
+
+-- an internal method: where it writes, it costs the object's growth and a new name
+abbrev pub apply_outcome : World → ℕ → Method → (before : ObjectRecord) → (answer : Bool) → Option ObjectRecord → Event Bool
+apply_outcome w n m before answer None = Happens answer w
+apply_outcome w n m before answer (Some after) =
+    let name = name_added w m before after in
+    written (with_name name w) n (AnObject before) (AnObject after) (plus (growth before after) (name_cost m name)) answer
+
+abbrev pub apply : ℕ → Method → World → Event Bool
+apply n m w =
+    let before = object_in w.store n in
+    let outcome = apply_method m w.store n before in
+    apply_outcome w n m before outcome.answer outcome.written
+
+-- MakeConstructor (10.2.5), step 6, for a function that nobody has seen: no write
+abbrev pub prototype_name : Text
+prototype_name = codes "prototype"
+
+abbrev pub pointing_to : ℕ → Content → Content
+pointing_to p (Data v writable) = Data (Object p) writable
+pointing_to p (Accessor get set) = Accessor get set
+
+abbrev pub with_prototype : ℕ → ObjectRecord → Option Property → ObjectRecord
+with_prototype p o None = o
+with_prototype p o (Some q) = with_property o (Named prototype_name) (record q { content = pointing_to p q.content })
+
+abbrev pub attached : ℕ → Option Thing → Store → ℕ → Store
+attached p (Some (AnObject o)) s f = set s f (AnObject (with_prototype p o (own_property o (Named prototype_name))))
+attached p _ s f = s
+
+abbrev pub set_cell : ℕ → Value → World → Event (Unit {0})
+set_cell n v w =
+    let before = cell_in w.store n in
+    written w n (ACell before) (ACell (record { value = Some v; const = before.const })) nothing tt
+
+abbrev pub set_mark : ℕ → World → Event (Unit {0})
+set_mark n w = written w n (AMark (mark_in w.store n)) (AMark true) nothing tt
+
+-- A promise that isn't pending stays as it is, and the answer is none; else its reactions are handed out.
+abbrev pub settle_class : World → ℕ → PromiseState → ObjectRecord → Class → Event (Option (List Reaction))
+settle_class w n state o (Promise Pending reactions) = written w n (AnObject o) (AnObject (record o { class = Promise state [] })) nothing (Some reactions)
+settle_class w n state o c = Happens None w
+
+abbrev pub settle : ℕ → PromiseState → World → Event (Option (List Reaction))
+settle n state w = settle_class w n state (object_in w.store n) (object_in w.store n).class
+
+abbrev pub react_class : World → ℕ → Reaction → ObjectRecord → Class → Event (Unit {0})
+react_class w n r o (Promise Pending reactions) =
+    let after = record o { class = Promise Pending (reactions ++ r ∷ []) } in
+    written w n (AnObject o) (AnObject after) (growth o after) tt
+react_class w n r o c = Happens tt w
+
+abbrev pub add_reaction : ℕ → Reaction → World → Event (Unit {0})
+add_reaction n r w = react_class w n r (object_in w.store n) (object_in w.store n).class
+
+abbrev pub dequeue : List Job → World → Event (Option Job)
+dequeue [] w = Happens None w
+dequeue (job ∷ jobs) w = Happens (Some job) (record w { jobs = jobs })
+
+unfoldable pub perform : (d : Deed) → World → Event (Answer d)
+perform (Make t) w = make t w
+perform (Apply n m) w = apply n m w
+perform (Attach f p) w = Happens tt (record w { store = attached p (slice_get w.store f) w.store f })
+perform (SetCell n v) w = set_cell n v w
+perform (SetMark n) w = set_mark n w
+perform (Settle n state) w = settle n state w
+perform (AddReaction n r) w = add_reaction n r w
+perform (Enqueue job) w = charged (some_slots 4) tt (record w { jobs = w.jobs ++ job ∷ [] })
+perform Dequeue w = dequeue w.jobs w
+perform (AddRejection n) w = Happens tt (record w { rejections = w.rejections ++ n ∷ [] })
+perform (RemoveRejection n) w = Happens tt (record w { rejections = filter (λ m. not (m == n)) w.rejections })
+perform (MakeText units) w = charged (some_units units) tt w
+perform (Write bytes) w = Happens tt (record w { trace = w.trace ++ Wrote bytes ∷ [] })
+perform (Take line left) w = Happens tt (record w { trace = w.trace ++ Took line ∷ []; input = Some left })

@@ -1,0 +1,98 @@
+-- What a run holds. Operations see and change the world; the meter and the depth belong to calls.
+use Rattle.std.specs.Prelude.{ℕ, ◌+◌, ◌-◌, ◌*◌, Bool, true, false, List, [], length, map, sum_by, Option}
+use Rattle.js_value.specs.Value.{Value, Text}
+use Rattle.js_value.specs.Store.{Store, size}
+
+-- ---- jobs (ECMA-262 9.5)
+
+-- NewPromiseReactionJob (27.2.2.1) for a promise that was fulfilled or rejected, and NewPromiseResolveThenableJob (27.2.2.2)
+pub data Job : Type 0 where
+  FulfilJob : (handler : Value) → (derived : ℕ) → (argument : Value) → Job
+  RejectJob : (handler : Value) → (derived : ℕ) → (argument : Value) → Job
+  ThenableJob : (promise : ℕ) → (thenable next : Value) → Job
+
+-- ---- modules
+
+pub data ModuleStatus : Type 0 where
+  NotEvaluated : ModuleStatus
+  Evaluated : ModuleStatus
+  Preloaded : ModuleStatus
+
+-- a module's status, and the cells of its top-level bindings once they are made
+pub record ModuleState : Type 0 where
+  pub status : ModuleStatus
+  pub cells : List ℕ
+
+-- ---- the outside
+
+-- what was written, and the lines that were taken from the input
+pub data TraceEvent : Type 0 where
+  Wrote : List ℕ → TraceEvent
+  Took : Text → TraceEvent
+
+-- ---- the ledger's counts (own)
+
+pub record Counts : Type 0 where
+  pub slots : ℕ
+  pub units : ℕ
+  pub names : ℕ
+
+abbrev pub nothing : Counts
+nothing = record { slots = 0; units = 0; names = 0 }
+
+abbrev pub some_slots : ℕ → Counts
+some_slots n = record { slots = n; units = 0; names = 0 }
+
+abbrev pub some_units : ℕ → Counts
+some_units n = record { slots = 0; units = n; names = 0 }
+
+abbrev pub plus : Counts → Counts → Counts
+plus a b = record { slots = a.slots + b.slots; units = a.units + b.units; names = a.names + b.names }
+
+-- first writes are counted by `run` and `resume`, and not by `link`, `boot` and `eval`
+pub record Limits : Type 0 where
+  pub budget : ℕ
+  pub slots : ℕ
+  pub units : ℕ
+  pub first_writes : Bool
+
+-- all names together, those known at the start among them
+abbrev pub most_names : ℕ
+most_names = 65535
+
+abbrev pub room_of : Limits → (known : List Text) → Counts
+room_of limits known = record { slots = limits.slots; units = limits.units; names = most_names - length known }
+
+-- the ledger: what was used, the limits, and for each thing what its next write costs first: its size at the start
+-- until it is written, then 0, and 0 for things that were made since (or for all, where first writes aren't counted)
+pub record Ledger : Type 0 where
+  pub used : Counts
+  pub room : Counts
+  pub first_costs : List ℕ
+
+-- ---- the world
+
+pub record World : Type 0 where
+  pub store : Store
+  pub realm : List ℕ  -- the number of each thing of the realm, in the realm's order
+  pub names : List Text  -- the texts that are names, in the order in which they became so
+  pub ledger : Ledger
+  pub jobs : List Job  -- the first one runs first
+  pub rejections : List ℕ  -- promises that were rejected while they had no reaction
+  pub modules : List ModuleState
+  pub trace : List TraceEvent
+  pub input : Option (List ℕ)  -- the bytes that are left; none where there is no host
+
+pub record State : Type 0 where
+  pub world : World
+  pub meter : ℕ
+  pub depth : ℕ
+
+-- the costs of first writes when a run starts on a store of preloaded things
+abbrev pub costs_at_start : Bool → Store → List ℕ
+costs_at_start true s = map size s
+costs_at_start false s = []
+
+-- the counts with which `resume` starts: the snapshot's slots and four for each job, its units with those of its names, its names
+abbrev pub counts_at_resume : (slots units : ℕ) → (names : List Text) → List Job → Counts
+counts_at_resume slots units names jobs = record { slots = slots + 4 * length jobs; units = units + sum_by length names; names = length names }
