@@ -4,7 +4,8 @@ use Rattle.js_value.specs.Text.{piece, utf8}
 use Rattle.js_value.proofs.Pieces.{utf8-piece, utf8-none, piece-some}
 use Rattle.js_value.proofs.Ascii.{utf8-append, encoded-ascii, utf8-ascii_cons}
 use Rattle.es_model.specs.Tree.{Text}
-use Rattle.es_model.specs.Host.{Event, Wrote, Took, cut, pieces, write, written, line_events, line_feed}
+use Rattle.es_model.specs.State.{TraceEvent, Wrote, Took}
+use Rattle.es_model.specs.Host.{cut, pieces, write, written, line_events, line_feed}
 
 joined : (n : ℕ) (text : Text) → length text ≤ n → written (map write (cut n text)) ≡ utf8 text
 unfolding cut
@@ -24,7 +25,7 @@ written-line text =
     ∙ ap (λ end. utf8 text ++ end) (utf8-ascii_cons line_feed [] (lit< tt) ∙ ap (λ end. line_feed ∷ end) utf8-none)
 
 -- what two traces, one after the other, have written
-pub written-append : (before later : List Event) → written (before ++ later) ≡ written before ++ written later
+pub written-append : (before later : List TraceEvent) → written (before ++ later) ≡ written before ++ written later
 written-append [] later = refl
 written-append (Wrote bytes ∷ before) later = ap (λ rest. bytes ++ rest) (written-append before later) ∙ sym (append_assoc bytes (written before) (written later))
 written-append (Took line ∷ before) later = written-append before later

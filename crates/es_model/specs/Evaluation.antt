@@ -3,7 +3,8 @@
 use Rattle.std.specs.Prelude.{ℕ, zero, suc, ◌+◌, Bool, true, false, List, [], ◌∷◌, ◌++◌, Option, Some, None, nat_lt, codes}
 use Rattle.std.specs.Str.{bytes_eq}
 use Rattle.es_model.specs.Tree.{Text}
-use Rattle.es_model.specs.Host.{Event, line_events}
+use Rattle.es_model.specs.State.{TraceEvent}
+use Rattle.es_model.specs.Host.{line_events}
 use Rattle.es_model.specs.Tree as t
 use Rattle.es_model.specs.Tree.{Tree}
 
@@ -28,7 +29,7 @@ pub data Limit : Type 0 where
 pub record State : Type 0 where
   pub meter : ℕ
   pub depth : ℕ
-  pub trace : List Event
+  pub trace : List TraceEvent
 
 -- Why a form did not complete normally (6.2.4, the abrupt completions). Stop is own: no script catches it.
 pub data Abrupt : Type 0 where

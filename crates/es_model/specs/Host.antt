@@ -2,14 +2,10 @@
 use Rattle.std.specs.Prelude.{ℕ, zero, suc, List, [], ◌∷◌, ◌++◌, length, drop, map}
 use Rattle.js_value.specs.Text.{piece, utf8}
 use Rattle.es_model.specs.Tree.{Text}
-
--- The trace of a run is a list of these, the oldest first.
-pub data Event : Type 0 where
-  Wrote : (bytes : List ℕ) → Event
-  Took : (line : List ℕ) → Event
+use Rattle.es_model.specs.State.{TraceEvent, Wrote, Took}
 
 -- the bytes that a trace has written
-abbrev pub written : List Event → List ℕ
+abbrev pub written : List TraceEvent → List ℕ
 written [] = []
 written (Wrote bytes ∷ events) = bytes ++ written events
 written (Took line ∷ events) = written events
@@ -27,9 +23,9 @@ pieces text = cut (length text) text
 abbrev pub line_feed : ℕ
 line_feed = 10
 
-abbrev pub write : Text → Event
+abbrev pub write : Text → TraceEvent
 write text = Wrote (utf8 text)
 
 -- what is written for a line of this text, one event for each piece
-abbrev pub line_events : Text → List Event
+abbrev pub line_events : Text → List TraceEvent
 line_events text = map write (pieces (text ++ line_feed ∷ []))

@@ -1,4 +1,3 @@
-<<<<<<< HEAD
 //! The syntax of the language: tokens and trees, and what ECMA-262 says of them.
 #![tactic(auto)]
 
@@ -22,10 +21,3 @@ pub use tree::{
     Case, Class, Declarator, Expression, ExpressionForm, Function, FunctionBody, Head, Key, Member,
     Statement, StatementForm,
 };
-=======
-//! The definitions that the engine is proved against.
-#![tactic(auto)]
-
-/// A function's number in its module has 16 bits.
-pub const FUNCTIONS: u32 = 4096;
->>>>>>> store-main

@@ -12,7 +12,8 @@ use Rattle.byte_code.specs.Instructions.{IsInstruction, IsShortest, parts}
 use Rattle.byte_code.specs.Operands.{FitsBytes}
 use Rattle.es_model.specs.Tree as t
 use Rattle.es_model.specs.Tree.{Tree, Text}
-use Rattle.es_model.specs.Host.{Event, written, line_events}
+use Rattle.es_model.specs.State.{TraceEvent}
+use Rattle.es_model.specs.Host.{written, line_events}
 use Rattle.es_model.specs.Evaluation.{Environment, Cell, HostCell, Print, State, Normal, Run, meaning, find as bound, evaluator}
 use Rattle.es_model.specs.Boot.{top_level, run, start, told, Told}
 use Rattle.xs_cli.specs.Code.{has_name, with_name, with_names, names_of, number, print_text, body, AreInstructions}
@@ -88,7 +89,7 @@ leads names text h = ap (name_at names) (number_is names text) ∙ sym (find_at 
 
 -- ---- in the machine
 
-prints_one : (names : List Text) (n : ℕ) (text : Text) (rest : List Op) (tail : List Event) → name_at names n ≡ Some text → runs names rest [] ≡ Some tail → runs names (print_text n ++ rest) [] ≡ Some (line_events text ++ tail)
+prints_one : (names : List Text) (n : ℕ) (text : Text) (rest : List Op) (tail : List TraceEvent) → name_at names n ≡ Some text → runs names rest [] ≡ Some tail → runs names (print_text n ++ rest) [] ≡ Some (line_events text ++ tail)
 unfolding runs
 prints_one names n text rest tail leads on = rw leads (rw on refl)
 
@@ -112,11 +113,11 @@ good names (text ∷ texts) few =
 abbrev pub top : Environment
 top = (codes "print", HostCell Print) ∷ []
 
-abbrev pub at_body : ℕ → List Event → State
+abbrev pub at_body : ℕ → List TraceEvent → State
 at_body units trace = record { meter = units; depth = 0; trace = trace }
 
 -- each call takes a unit, and writes its line
-calls_all : (smaller : Run) (texts : List Text) (units : ℕ) (trace : List Event) → length texts ≤ units → (left : ℕ) × (meaning smaller (printing texts) top (at_body units trace) ≡ Normal tt (at_body left (trace ++ events_of texts)))
+calls_all : (smaller : Run) (texts : List Text) (units : ℕ) (trace : List TraceEvent) → length texts ≤ units → (left : ℕ) × (meaning smaller (printing texts) top (at_body units trace) ≡ Normal tt (at_body left (trace ++ events_of texts)))
 unfolding meaning bound printing events_of
 calls_all smaller [] units trace h = (units, ap (λ events. Normal tt (at_body units events)) (sym (append-nil trace)))
 calls_all smaller (text ∷ texts) zero trace h = absurd (omega arith)

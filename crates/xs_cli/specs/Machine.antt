@@ -2,14 +2,15 @@
 -- (its top comes first), and what it writes. Own rules.
 use Rattle.std.specs.Prelude.{ℕ, zero, suc, ◌==◌, ◌++◌, ◌≡◌, Bool, true, false, List, [], ◌∷◌, length, Option, Some, None, option_map, nat_lt, slice_get}
 use Rattle.es_model.specs.Tree.{Text}
-use Rattle.es_model.specs.Host.{Event, line_events}
+use Rattle.es_model.specs.State.{TraceEvent}
+use Rattle.es_model.specs.Host.{line_events}
 use Rattle.byte_code.specs.declared.instruction.Op.{Op}
 use Rattle.byte_code.specs.declared.instruction.Op.TheVariants as op
 use Rattle.xs_cli.specs.declared.machine.stack.Value.{Value}
 use Rattle.xs_cli.specs.declared.machine.stack.Value.TheVariants as v
 
 pub data Stepped : Type 0 where
-  Goes : List Value → List Event → Stepped
+  Goes : List Value → List TraceEvent → Stepped
   Returned : Stepped
   Stuck : Stepped
 
@@ -67,12 +68,12 @@ step names (op.Call count) stack = called_by (count == 1) names stack
 step names op.Return stack = returned stack
 step names _ stack = Stuck
 
-abbrev pub after : Stepped → (List Value → Option (List Event)) → Option (List Event)
+abbrev pub after : Stepped → (List Value → Option (List TraceEvent)) → Option (List TraceEvent)
 after (Goes stack events) rest = option_map (λ later. events ++ later) (rest stack)
 after Returned rest = Some []
 after Stuck rest = None
 
 -- what the instructions write from this stack on, or None where they get stuck or end without a return
-unfoldable pub runs : List Text → List Op → List Value → Option (List Event)
+unfoldable pub runs : List Text → List Op → List Value → Option (List TraceEvent)
 runs names [] stack = None
 runs names (op ∷ ops) stack = after (step names op stack) (runs names ops)

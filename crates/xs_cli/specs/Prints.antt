@@ -3,12 +3,13 @@ use Rattle.std.specs.Prelude.{◌≡◌, ◌++◌, ℕ, List, [], ◌∷◌, Opt
 use Rattle.std.specs.Io.KnownBytes.{Appends, Keeps}
 use Rattle.xs_base.specs.Outside.{Rose, SentInPart}
 use Rattle.es_model.specs.Tree.{Text}
-use Rattle.es_model.specs.Host.{Event, written, line_events}
+use Rattle.es_model.specs.State.{TraceEvent}
+use Rattle.es_model.specs.Host.{written, line_events}
 use Rattle.xs_cli.specs.declared.top.End.{End}
 use Rattle.xs_cli.specs.declared.top.End.TheVariants as end
 
 -- the events of printing these texts in turn
-unfoldable pub events_of : List Text → List Event
+unfoldable pub events_of : List Text → List TraceEvent
 events_of [] = []
 events_of (text ∷ texts) = line_events text ++ events_of texts
 

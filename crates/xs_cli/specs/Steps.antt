@@ -2,7 +2,8 @@
 use Rattle.std.specs.Prelude.{◌≡◌, ◌≤◌, ◌++◌, ℕ, List, [], Option, Some, Result, Ok, Err, length, drop}
 use Rattle.std.specs.Io.KnownBytes.{Appends, Keeps}
 use Rattle.xs_base.specs.Outside.{Rose, SentInPart}
-use Rattle.es_model.specs.Host.{Event, written}
+use Rattle.es_model.specs.State.{TraceEvent}
+use Rattle.es_model.specs.Host.{written}
 use Rattle.byte_code.specs.declared.instruction.Op.{Op}
 use Rattle.xs_cli.specs.Code.{spelled, AreInstructions}
 use Rattle.xs_cli.specs.Machine.{Stepped, Goes, Returned, Stuck, runs}

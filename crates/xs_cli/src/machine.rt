@@ -2,7 +2,8 @@
 
 ghost use Rattle.std.specs.Prelude.{◌≡◌, ℕ, List, Option, [], Some};
 ghost use Rattle.byte_code.specs.declared.instruction.Op.{Op};
-ghost use Rattle.es_model.specs.Host.{Event, written};
+ghost use Rattle.es_model.specs.Host.{written};
+ghost use Rattle.es_model.specs.State.{TraceEvent};
 ghost use Rattle.xs_cli.specs.Code.{spelled, AreInstructions};
 ghost use Rattle.xs_cli.specs.Machine.{runs, step, pushed, popped, called, printed, name_at, returned};
 ghost use Rattle.xs_cli.specs.Steps.{DoesStep, DoesRun, IsCounted};
@@ -124,7 +125,7 @@ fn step<O: Sink>(names: &[Units], stack: &mut Stack, op: Op, out: &mut O) -> Res
 /// nothing is asked of other code.
 pub fn run<O: Sink>(program: &Program, stack: &mut Stack, out: &mut O) -> Result<(), Fault>
     requires { stack.old ≡ [] }
-    ensures run { (ops : List Op) → AreInstructions ops → program.now.code ≡ spelled ops → (events : List Event) → runs program.now.names ops [] ≡ Some events → DoesRun (written events) (O.written out.old) (O.written out.new) result }
+    ensures run { (ops : List Op) → AreInstructions ops → program.now.code ≡ spelled ops → (events : List TraceEvent) → runs program.now.names ops [] ≡ Some events → DoesRun (written events) (O.written out.old) (O.written out.new) result }
     ensures cause { IsCounted (O.faults out.old) (O.faults out.new) result }
 {
     let code = program.code.as_slice();
