@@ -9,6 +9,7 @@ mod names;
 mod place;
 mod token;
 mod tree;
+mod words;
 
 pub use faults::{EarlyFault, LexFault};
 pub use items::{Default, Item, Module};
@@ -21,3 +22,4 @@ pub use tree::{
     Case, Class, Declarator, Expression, ExpressionForm, Function, FunctionBody, Head, Key, Member,
     Statement, StatementForm,
 };
+pub use words::{keyword, keyword_text, sign, sign_text};
