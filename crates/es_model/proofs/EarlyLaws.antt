@@ -1,5 +1,5 @@
 -- `early` gives a failing rule exactly where one fails, and of these the first.
-use Rattle.std.proofs.Common.{◌≡◌, ℕ, ◌+◌, ◌<◌, Bool, true, false, ◌&&◌, ◌||◌, ◌==◌, nat_lt, ◌⊎◌, List, [], ◌∷◌, Option, Some, None, refl, ap, sym, ◌∙◌, inl, inr, arith}
+use Rattle.std.proofs.Common.{◌≡◌, Bool, true, false, ◌⊎◌, List, [], ◌∷◌, Some, None, refl, inl, inr, arith}
 use Rattle.es_model.specs.declared.faults.EarlyFault.{EarlyFault}
 use Rattle.es_model.specs.Tree as t
 use Rattle.es_model.specs.Tree.{Tree}
@@ -23,8 +23,9 @@ least_among : (one : Failure) (rest : List Failure) → Among (least_of one rest
 least_among one [] = inl refl
 least_among one (other ∷ rest) =
     elim (is_before other one) as (λ b. Among (elim b [ true ↦ least_of other rest | false ↦ least_of one rest ]) (one ∷ (other ∷ rest))) [
-      true ↦ inr (least_among other rest)
-    | false ↦ elim (least_among one rest) [ inl e ↦ inl e | inr h ↦ inr (inr h) ] ]
+      | true ↦ inr (least_among other rest)
+      | false ↦ elim (least_among one rest) [ inl e ↦ inl e | inr h ↦ inr (inr h) ]
+    ]
 
 -- the order of failures
 lower : (x y z : Failure) → is_before x y ≡ true → is_before x z ≡ false → is_before y z ≡ false
