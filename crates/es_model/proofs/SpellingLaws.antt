@@ -1,6 +1,6 @@
 -- The spelling of a form takes at least one token; of a list of forms, of what may be left out, and
 -- of the head of a `for`, any number. The clauses follow those of `Spells`.
-use Rattle.std.proofs.Common.{ℕ, ◌+◌, ◌<◌, ◌≤◌, Bool, true, false, List, [], ◌∷◌, length, Option, Some, None, ap, inl, inr, arith}
+use Rattle.std.proofs.Common.{ℕ, ◌<◌, ◌≤◌, Bool, true, false, List, [], ◌∷◌, length, Option, Some, None, ap, inl, inr, arith}
 use Prim.Native.String.{String}
 use Rattle.es_model.specs.declared.kinds.Semi.{Semi}
 use Rattle.es_model.specs.declared.kinds.Semi.TheVariants as semi

@@ -1,5 +1,5 @@
 -- Trees with tokens that spell them: one for each form of the grammar.
-use Rattle.std.proofs.Common.{◌≤◌, true, false, [], ◌∷◌, codes, pos, Some, None, refl, inl, inr, lit≤}
+use Rattle.std.proofs.Common.{true, false, [], ◌∷◌, codes, pos, Some, None, refl, inl, inr, lit≤}
 use Rattle.es_model.specs.declared.kinds.Semi.TheVariants as semi
 use Rattle.es_model.specs.declared.kinds.FunctionKind.TheVariants as f
 use Rattle.es_model.specs.declared.kinds.MemberKind.TheVariants as m

@@ -1,6 +1,6 @@
 -- The early rules (ECMA-262, 13 to 16, with the language's own rules). Each rule is a list of the
 -- places where it fails; a module's fault is the one with the least place, then the least rule.
-use Rattle.std.specs.Prelude.{ℕ, ◌+◌, Bool, true, false, not, ◌&&◌, ◌||◌, ◌==◌, nat_lt, nat_le, List, [], ◌∷◌, ◌++◌, map, codes, ℤ, pos, negsuc, Option, Some, None}
+use Rattle.std.specs.Prelude.{ℕ, Bool, true, false, not, ◌&&◌, ◌||◌, ◌==◌, nat_lt, nat_le, List, [], ◌∷◌, ◌++◌, map, codes, ℤ, pos, negsuc, Option, Some, None}
 use Rattle.std.specs.List.{list_any, list_all}
 use Rattle.es_model.specs.declared.faults.EarlyFault.{EarlyFault}
 use Rattle.es_model.specs.declared.faults.EarlyFault.TheVariants.{DuplicateName, DuplicateExport, ExportUndeclared, ReservedName, GlobalAssigned, StrayBreak, StrayContinue, StrayReturn, StraySuper, DeleteName, DuplicateConstructor, IndexAccessor}
