@@ -18,3 +18,5 @@ pub mod Entries
 mod KeyRows
 pub mod Keys
 pub mod NumberTexts
+pub mod Tables
+mod CaseRows

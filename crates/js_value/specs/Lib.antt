@@ -8,3 +8,4 @@ pub mod Order
 pub mod Store
 pub mod Value
 pub mod WellFormed
+pub mod Case

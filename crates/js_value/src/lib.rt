@@ -2,6 +2,7 @@
 #![tactic(auto)]
 
 mod arithmetic;
+mod case;
 mod literals;
 mod numerals;
 #[cfg(test)]
@@ -10,6 +11,7 @@ mod text;
 mod words;
 
 pub use arithmetic::{add, div, mul, neg, pow, rem, sub};
+pub use case::Case;
 pub use literals::{index_of_key, number_of_units};
 pub use numerals::{text_of_number, text_of_number_radix};
 pub use text::{Units, utf8_piece};

@@ -91,3 +91,18 @@ fn keys(rt: HostRuntime) -> Result<(), Fail> {
     assert_eq!(rt; index_of_key(&past), None);
     Ok(())
 }
+
+#[test]
+fn rows_of_texts(rt: HostRuntime) {
+    let table: Case<3> = Case::new(["do", "double", "in"]);
+    let rows = [
+        table.find(&[0x64, 0x6F]),
+        table.find(&[0x64, 0x6F, 0x75, 0x62, 0x6C, 0x65]),
+        table.find(&[0x69, 0x6E]),
+        table.find(&[0x64]),
+        table.find(&[0x69, 0x6E, 0x74]),
+        table.find(&[]),
+    ];
+    let found = rows == [Some(0), Some(1), Some(2), None, None, None];
+    assert_eq!(rt; (found, table.key(2)), (true, "in"));
+}
