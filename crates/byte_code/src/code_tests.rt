@@ -234,35 +234,36 @@ fn codes_are_told_apart(rt: HostRuntime) -> Result<(), Fail> {
     Ok(())
 }
 
-// A code of 65,535 bytes: turns, a return, and a handler.
-fn long_code(alloc: Global) -> Result<CodeBytes, AllocError> {
+// A code of 65,535 bytes: turns, and then its end.
+fn long_code(alloc: Global, end: &[u8]) -> Result<CodeBytes, AllocError> {
     let mut code = CodeBytes::new(alloc);
-    for _ in 0..65_530 {
+    for _ in end.len()..65_535 {
         code.push(0x33)?;
     }
-    for byte in [0x00, 0x38, 0x09, 0x00, 0x38] {
-        code.push(byte)?;
+    for byte in end {
+        code.push(*byte)?;
     }
     Ok(code)
 }
 
 #[test]
 fn a_long_code_is_valid(rt: HostRuntime) -> Result<(), Fail> {
-    let code = long_code(rt.alloc())?;
+    let code = long_code(rt.alloc(), &[0x00, 0x38])?;
     assert_eq!(rt; code.as_slice().len(), 65_535);
-    assert!(rt; is_valid(code.as_slice(), &[0, 0, 0, 9, 0xFF, 0xFC]));
+    assert!(rt; is_valid(code.as_slice(), &[]));
     Ok(())
 }
 
 #[test]
 fn a_long_code_with_a_hundred_handlers_is_valid(rt: HostRuntime) -> Result<(), Fail> {
-    let code = long_code(rt.alloc())?;
+    let code = long_code(rt.alloc(), &[0x00, 0x38, 0x09, 0x00, 0x38])?;
     let mut handlers = CodeBytes::new(rt.alloc());
     for end in 0..100u8 {
         for byte in [0, 0, 0, end, 0xFF, 0xFC] {
             handlers.push(byte)?;
         }
     }
+    assert_eq!(rt; handlers.as_slice().len(), 600);
     assert!(rt; is_valid(code.as_slice(), handlers.as_slice()));
     Ok(())
 }

@@ -10,8 +10,8 @@ use crate::bytes::CodeBytes;
 use crate::operand::{Following, JUMP_BYTES, NAME_BYTES, Operand, PAIR_BYTES, read_following};
 use std::alloc::AllocError;
 
-/// An instruction with its operand (own rule): the number of a name (from 1), of a place, of an outer
-/// cell or of a function, an offset in the code, a count, a row of a table or a mode.
+/// An instruction with its operand (own rule): the number of a name (from 1), of a place, of an
+/// outer cell or of a function, an offset in the code, a count, a row of a table or a mode.
 #[derive(Clone, Copy, Debug, PartialEq, Eq)]
 pub enum Op {
     Undefined,
@@ -238,7 +238,7 @@ fn instruction_of(number: u8, after: Following) -> Option<Op>
 
 /// Puts an instruction's bytes at the end: its number, then its operand, the highest byte first. Of
 /// `Int`, `Mid` and `Long` the caller takes the shortest that holds the number. The one error is
-/// want of memory, and leaves the bytes as they were; only `into` grows, by 1 to 9 bytes (own rule).
+/// want of memory, and leaves the bytes as they were. `into` grows by 1 to 9 bytes (own rule).
 pub fn encode(into: &mut CodeBytes, op: Op) -> Result<(), AllocError>
     requires { IsShortest op }
     ensures ok { OnOk result (into.new ≡ into.old ++ spelling op) }
@@ -250,14 +250,19 @@ pub fn encode(into: &mut CodeBytes, op: Op) -> Result<(), AllocError>
     into.extend(&bytes[..count + 1])
 }
 
-/// The instruction whose spelling begins at a place of the code, from 0, and its number of bytes. None
-/// exactly where no instruction's spelling begins there: at and past the end, at a number that no
-/// instruction has, at an operand that is cut off, and at a signed number that a shorter instruction
-/// holds. Rows, modes and numbers are not looked at otherwise. It takes no memory (own rule).
+/// The instruction whose spelling begins at a place of the code, from 0, and its number of bytes.
+/// None exactly where no instruction's spelling begins there: at and past the end, at a number that
+/// no instruction has, at an operand that is cut off, and at a signed number that a shorter
+/// instruction holds. Rows, modes and numbers are not looked at otherwise. It takes no memory (own
+/// rule).
 pub fn decode(code: &[u8], at: usize) -> Option<(Op, usize)>
-    ensures found { IfSome result (λ found. IsInstruction found.0 × Begins (drop at code.now) found.0 × (found.1 ≡ length (spelling found.0))) }
-    ensures spelled { (op : Op) → IsInstruction op → Begins (drop at code.now) op → result ≡ Some (op, length (spelling op)) }
-    ensures none { IfNone result ((op : Op) → IsInstruction op → Begins (drop at code.now) op → ⊥) }
+    ensures found { IfSome result (λ found.
+        IsInstruction found.0 × Begins (drop at code.now) found.0
+        × (found.1 ≡ length (spelling found.0))) }
+    ensures spelled { (op : Op) → IsInstruction op → Begins (drop at code.now) op →
+        result ≡ Some (op, length (spelling op)) }
+    ensures none { IfNone result
+        ((op : Op) → IsInstruction op → Begins (drop at code.now) op → ⊥) }
 {
     let number = *code.get(at)?;
     let (_, rest) = code.split_at(at + 1);

@@ -47,7 +47,8 @@ impl NameText {
     }
 }
 
-/// A cell that a function captures: of the making function's outer list, or the one at a place of it.
+/// A cell that a function captures: one of the making function's outer list, or the one in a place
+/// of that function.
 #[derive(Clone, Copy)]
 pub struct CodeCapture {
     pub outer: bool,

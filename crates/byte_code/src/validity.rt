@@ -32,8 +32,11 @@ fn entry(handler: bool, before: Option<u16>, pending: Option<u16>) -> Option<u16
 /// The height after an instruction. None where it doesn't find what it takes, or passes the frame's
 /// operands.
 fn height_after(op: Op, height: u16, operands: u16) -> Option<u16>
-    ensures some { IfSome result (λ g. ((effect op).pops ≤ height) × (height ≤ operands) × (g ≤ operands) × (g ≡ height_after op height)) }
-    ensures none { IfNone result ((effect op).pops ≤ height → height ≤ operands → height_after op height ≤ operands → ⊥) }
+    ensures some { IfSome result (λ g.
+        ((effect op).pops ≤ height) × (height ≤ operands) × (g ≤ operands)
+        × (g ≡ height_after op height)) }
+    ensures none { IfNone result
+        ((effect op).pops ≤ height → height ≤ operands → height_after op height ≤ operands → ⊥) }
 {
     let change = effect(op);
     if height < change.pops || height > operands {
@@ -123,7 +126,9 @@ struct Front {
 fn step(code: &[u8], frame: Frame<'_>, front: Front, heights: &mut [Option<u16>]) -> Option<Front>
     requires within { front.at < length code.now }
     requires pass { Pass code.now (bounds_of frame) heights.old front.at front.before }
-    ensures some { IfSome result (λ next. Pass code.now (bounds_of frame.entry) heights.new next.at next.before × (front.at < next.at) × (next.at ≤ length code.now)) }
+    ensures some { IfSome result (λ next.
+        Pass code.now (bounds_of frame.entry) heights.new next.at next.before
+        × (front.at < next.at) × (next.at ≤ length code.now)) }
     ensures none { IfNone result (IsValid code.now (bounds_of frame.entry) → ⊥) }
 {
     let (op, count) = decode(code, front.at)?;

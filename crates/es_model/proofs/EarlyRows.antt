@@ -1,12 +1,8 @@
 -- Worked rows of `early`. A mark in a row's text stands where the rule fails.
-use Rattle.std.specs.Prelude.{◌≡◌, ℕ, Bool, true, false, List, [], ◌∷◌, codes, pos, Option, Some, None, refl}
+use Rattle.std.specs.Prelude.{◌≡◌, true, false, [], ◌∷◌, codes, pos, Some, None, refl}
 use Rattle.es_model.specs.declared.kinds.Semi.TheVariants as semi
 use Rattle.es_model.specs.declared.kinds.FunctionKind.TheVariants as f
 use Rattle.es_model.specs.declared.kinds.MemberKind.TheVariants as m
-use Rattle.es_model.specs.declared.kinds.BinaryOperator.TheVariants as b
-use Rattle.es_model.specs.declared.kinds.UnaryOperator.TheVariants as u
-use Rattle.es_model.specs.declared.names.Identifier.{Identifier}
-use Rattle.es_model.specs.declared.names.Pair.{Pair}
 use Rattle.es_model.specs.declared.faults.EarlyFault.TheVariants as e
 use Rattle.es_model.specs.Tree as t
 use Rattle.es_model.specs.Scopes.{gather}

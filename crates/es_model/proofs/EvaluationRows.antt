@@ -7,7 +7,7 @@ use Rattle.es_model.specs.Tree.{Tree}
 use Rattle.es_model.specs.declared.names.Identifier.{Identifier}
 use Rattle.es_model.specs.declared.kinds.Semi.TheVariants.{Written}
 use Rattle.es_model.specs.Evaluation.{meaning, find, evaluator}
-use Rattle.es_model.specs.Boot.{top_level, run, told, Told}
+use Rattle.es_model.specs.Boot.{top_level, run, told}
 
 -- import { print } from "host"; print("hi");
 identifier : ℕ → List ℕ → Identifier

@@ -1,10 +1,10 @@
 -- Each mention has one place, and each number below the count of functions is that of one function.
-use Rattle.std.proofs.Common.{◌≡◌, ℕ, zero, suc, ◌+◌, ◌<◌, List, [], ◌∷◌, length, slice_get, Option, Some, None, refl, ap, arith}
+use Rattle.std.proofs.Common.{◌≡◌, ℕ, zero, suc, ◌<◌, List, [], ◌∷◌, length, slice_get, Some, None, refl, ap, arith}
 use Rattle.es_model.specs.declared.place.Place.{Place}
 use Rattle.es_model.specs.Tree as t
 use Rattle.es_model.specs.Tree.{Tree}
 use Rattle.es_model.specs.Functions.{FunctionForm, functions, function_count, function_at}
-use Rattle.es_model.specs.FreeNames.{Mention, mentions, mentioned_place, place_of_mention}
+use Rattle.es_model.specs.FreeNames.{mentions, mentioned_place, place_of_mention}
 
 got : {A : Type 0} → (list : List A) (i : ℕ) → i < length list → (one : A) × (slice_get list i ≡ Some one)
 got [] i lt = absurd (omega arith)

@@ -1,12 +1,9 @@
 -- Worked rows of the places of mentions, of captures, of the cells of `this` and of the counts.
-use Rattle.std.specs.Prelude.{◌≡◌, ℕ, zero, suc, Bool, true, false, List, [], ◌∷◌, length, codes, pos, Option, Some, None, refl}
+use Rattle.std.specs.Prelude.{◌≡◌, ℕ, suc, Bool, true, false, List, [], ◌∷◌, codes, pos, Option, Some, None, refl}
 use Rattle.es_model.specs.declared.kinds.Semi.TheVariants as semi
 use Rattle.es_model.specs.declared.kinds.FunctionKind.TheVariants as f
 use Rattle.es_model.specs.declared.kinds.MemberKind.TheVariants as m
 use Rattle.es_model.specs.declared.kinds.BinaryOperator.TheVariants as b
-use Rattle.es_model.specs.declared.kinds.UnaryOperator.TheVariants as u
-use Rattle.es_model.specs.declared.names.Identifier.{Identifier}
-use Rattle.es_model.specs.declared.names.Pair.{Pair}
 use Rattle.es_model.specs.declared.place.Capture.{Capture}
 use Rattle.es_model.specs.declared.place.Place.{Place}
 use Rattle.es_model.specs.declared.place.Place.TheVariants.{Local, Boxed, Outer, Import, Global, Unbound}

@@ -1,6 +1,6 @@
 -- The spelling of a form takes at least one token; of a list of forms, of what may be left out, and
 -- of the head of a `for`, any number. The clauses follow those of `Spells`.
-use Rattle.std.proofs.Common.{◌≡◌, ℕ, suc, ◌+◌, ◌<◌, ◌≤◌, Bool, true, false, ◌⊎◌, List, [], ◌∷◌, length, Option, Some, None, refl, ap, sym, subst, inl, inr, arith}
+use Rattle.std.proofs.Common.{ℕ, ◌<◌, ◌≤◌, Bool, true, false, List, [], ◌∷◌, length, Option, Some, None, ap, inl, inr, arith}
 use Prim.Native.String.{String}
 use Rattle.es_model.specs.declared.kinds.Semi.{Semi}
 use Rattle.es_model.specs.declared.kinds.Semi.TheVariants as semi
@@ -11,12 +11,10 @@ use Rattle.es_model.specs.declared.kinds.MemberKind.TheVariants as m
 use Rattle.es_model.specs.declared.names.Identifier.{Identifier}
 use Rattle.es_model.specs.declared.names.Pair.{Pair}
 use Rattle.es_model.specs.declared.token.Token.{Token}
-use Rattle.es_model.specs.declared.token.TokenKind.{TokenKind}
-use Rattle.es_model.specs.declared.token.TokenKind.TheVariants as k
 use Rattle.es_model.specs.Tree as t
 use Rattle.es_model.specs.Tree.{Tree, Text}
 use Rattle.es_model.specs.Levels.{operator_sign, assignment_sign, unary_sign, Holder, InObject, InClass}
-use Rattle.es_model.specs.Readings.{Tokens, Reading, nothing, never, ◌▸◌, ◌∣◌, given, First, One, the, name, the_name, maybe_name, property, here, same_line, not_first, semicolon, may_miss, may_miss_bare, may_miss_after_do, may_miss_after_export}
+use Rattle.es_model.specs.Readings.{Tokens, Reading, nothing, ◌▸◌, ◌∣◌, One, the, name, the_name, maybe_name, property, semicolon, may_miss, may_miss_bare, may_miss_after_do, may_miss_after_export}
 use Rattle.es_model.specs.Spelling as s
 use Rattle.es_model.specs.Spelling.{Spelled, Spells, Maybe, LeftOut, There, FunctionUse, AsExpression, AsStatement, AsDefault, AsMember, Semicolons, no_more, one_more}
 

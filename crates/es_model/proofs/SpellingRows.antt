@@ -1,18 +1,13 @@
 -- Trees with tokens that spell them: one for each form of the grammar.
-use Rattle.std.proofs.Common.{◌≡◌, ℕ, ◌≤◌, Bool, true, false, List, [], ◌∷◌, codes, pos, Option, Some, None, refl, inl, inr, lit≤}
+use Rattle.std.proofs.Common.{true, false, [], ◌∷◌, codes, pos, Some, None, refl, inl, inr, lit≤}
 use Rattle.es_model.specs.declared.kinds.Semi.TheVariants as semi
 use Rattle.es_model.specs.declared.kinds.FunctionKind.TheVariants as f
 use Rattle.es_model.specs.declared.kinds.MemberKind.TheVariants as m
 use Rattle.es_model.specs.declared.kinds.BinaryOperator.TheVariants as b
 use Rattle.es_model.specs.declared.kinds.UnaryOperator.TheVariants as u
-use Rattle.es_model.specs.declared.names.Identifier.{Identifier}
-use Rattle.es_model.specs.declared.names.Pair.{Pair}
-use Rattle.es_model.specs.declared.token.Token.{Token}
-use Rattle.es_model.specs.declared.token.TokenKind.{TokenKind}
 use Rattle.es_model.specs.declared.token.TokenKind.TheVariants as k
 use Rattle.es_model.specs.Readings.{word}
 use Rattle.es_model.specs.Tree as t
-use Rattle.es_model.specs.Tree.{Tree}
 use Rattle.es_model.specs.Spelling.{Spells, spells, no_more, one_more}
 use Rattle.es_model.proofs.Rows.{token, lined, named_at, pair_of}
 
@@ -171,7 +166,7 @@ defaults : spells (t.more (t.ExportDefault 7 (t.DefaultFunction (t.FunctionOf 15
 unfolding Spells word
 defaults = (_, refl, (_, (_, (refl, refl), (refl, (_, (refl, refl), (refl, (refl, (_, (refl, refl), (_, refl, (_, (refl, refl), (_, refl, (_, (refl, refl), (_, (refl, refl), (_, refl, (refl, refl))))))))))))), (_, (_, (refl, refl), (refl, (_, (refl, refl), (refl, (refl, (_, (refl, refl), (_, refl, (_, (refl, refl), (_, no_more, (refl, refl)))))))))), (_, (_, (refl, refl), (refl, (refl, (_, (refl, refl), (_, ((refl, refl), refl), (_, (refl, refl), (_, refl, (_, (refl, refl), (_, (refl, refl), (_, refl, (refl, refl))))))))))), refl))))
 
--- 
+--
 nothing : spells t.none (token k.End 0 ∷ [])
 unfolding Spells word
 nothing = (_, refl, refl)

@@ -1,9 +1,9 @@
 -- Laws of `tokens_of`: its parts, joined, are the text, and an accepted list has one End, its last.
-use Rattle.std.proofs.Common.{◌≡◌, ℕ, zero, suc, ◌+◌, ◌-◌, Bool, true, false, not, ◌&&◌, ◌||◌, ◌==◌, nat_le, List, [], ◌∷◌, ◌++◌, length, take, drop, take_while, map, codes, pos, Option, Some, None, Result, Ok, Err, refl, ap, sym, ◌∙◌, take-append-drop, append-nil, subst}
+use Rattle.std.proofs.Common.{◌≡◌, ℕ, zero, suc, ◌+◌, ◌-◌, Bool, true, false, ◌&&◌, ◌||◌, ◌==◌, List, [], ◌∷◌, ◌++◌, length, take, drop, take_while, codes, Option, Some, None, Result, Ok, Err, refl, ap, ◌∙◌, take-append-drop, append-nil, subst}
 use Rattle.std.specs.List.{flat_map, list_any}
 use Rattle.js_value.specs.Text.{parts, sequence_length, utf16}
 use Rattle.es_model.specs.declared.faults.LexFault.{LexFault}
-use Rattle.es_model.specs.declared.faults.LexFault.TheVariants.{NotUtf8, BadCharacter, OpenComment, OpenTemplate, NumberForm, NumberTooLarge}
+use Rattle.es_model.specs.declared.faults.LexFault.TheVariants.{NotUtf8, BadCharacter, OpenComment, OpenTemplate, NumberForm}
 use Rattle.es_model.specs.declared.token.Token.{Token}
 use Rattle.es_model.specs.declared.token.TokenKind.{TokenKind}
 use Rattle.es_model.specs.declared.token.TokenKind.TheVariants as k
@@ -27,12 +27,14 @@ joined_after passed braces at [] = drop_nothing passed
 joined_after (suc passed) braces at (c ∷ cs) = joined_after passed braces (at + width c) cs
 joined_after zero braces at (c ∷ cs) =
     elim (element braces at c cs) as (λ e. joined (elim e [
-      Between line more ↦ record { at = at; element = Between line more; spelling = c ∷ take more cs } ∷ parts_of more braces (at + width c) cs
-    | Word kind more ↦ record { at = at; element = Word kind more; spelling = c ∷ take more cs } ∷ parts_of more (braces_after at kind braces) (at + width c) cs
-    | Wrong fault ↦ record { at = at; element = Wrong fault; spelling = c ∷ cs } ∷ [] ]) ≡ c ∷ cs) [
-      Between line more ↦ joins c cs more _ (joined_after more braces (at + width c) cs)
-    | Word kind more ↦ joins c cs more _ (joined_after more (braces_after at kind braces) (at + width c) cs)
-    | Wrong fault ↦ append-nil (c ∷ cs) ]
+      | Between line more ↦ record { at = at; element = Between line more; spelling = c ∷ take more cs } ∷ parts_of more braces (at + width c) cs
+      | Word kind more ↦ record { at = at; element = Word kind more; spelling = c ∷ take more cs } ∷ parts_of more (braces_after at kind braces) (at + width c) cs
+      | Wrong fault ↦ record { at = at; element = Wrong fault; spelling = c ∷ cs } ∷ []
+    ]) ≡ c ∷ cs) [
+      | Between line more ↦ joins c cs more _ (joined_after more braces (at + width c) cs)
+      | Word kind more ↦ joins c cs more _ (joined_after more (braces_after at kind braces) (at + width c) cs)
+      | Wrong fault ↦ append-nil (c ∷ cs)
+    ]
 
 -- the parts of a text, joined, are the text
 pub parts_joined : (text : List ℕ) → joined (parts_of 0 [] 0 text) ≡ text
@@ -113,12 +115,14 @@ good_after passed braces at [] line = ending_good at line (s.innermost braces)
 good_after (suc passed) braces at (c ∷ cs) line = good_after passed braces (at + width c) cs line
 good_after zero braces at (c ∷ cs) line =
     elim (element braces at c cs) as (λ e. Fine e → Good (s.tokens_in line (elim e [
-      Between breaks more ↦ record { at = at; element = Between breaks more; spelling = c ∷ take more cs } ∷ parts_of more braces (at + width c) cs
-    | Word kind more ↦ record { at = at; element = Word kind more; spelling = c ∷ take more cs } ∷ parts_of more (braces_after at kind braces) (at + width c) cs
-    | Wrong fault ↦ record { at = at; element = Wrong fault; spelling = c ∷ cs } ∷ [] ]))) [
-      Between breaks more ↦ λ h. good_after more braces (at + width c) cs (line || breaks)
-    | Word kind more ↦ λ h. before_good _ (s.tokens_in false (parts_of more (braces_after at kind braces) (at + width c) cs)) (no_end h) (good_after more (braces_after at kind braces) (at + width c) cs false)
-    | Wrong fault ↦ λ h. tt ] (element_fine braces at c cs)
+      | Between breaks more ↦ record { at = at; element = Between breaks more; spelling = c ∷ take more cs } ∷ parts_of more braces (at + width c) cs
+      | Word kind more ↦ record { at = at; element = Word kind more; spelling = c ∷ take more cs } ∷ parts_of more (braces_after at kind braces) (at + width c) cs
+      | Wrong fault ↦ record { at = at; element = Wrong fault; spelling = c ∷ cs } ∷ []
+    ]))) [
+      | Between breaks more ↦ λ h. good_after more braces (at + width c) cs (line || breaks)
+      | Word kind more ↦ λ h. before_good _ (s.tokens_in false (parts_of more (braces_after at kind braces) (at + width c) cs)) (no_end h) (good_after more (braces_after at kind braces) (at + width c) cs false)
+      | Wrong fault ↦ λ h. tt
+    ] (element_fine braces at c cs)
 
 good_at : (bytes : List ℕ) (o : Option ℕ) → Good (elim o [ Some at ↦ Err (NotUtf8 at) | None ↦ s.tokens_in false (parts_of 0 [] 0 (s.characters_of bytes)) ])
 good_at bytes (Some at) = tt

@@ -1,5 +1,5 @@
 -- Worked rows of `tokens_of`.
-use Rattle.std.specs.Prelude.{◌≡◌, ℕ, Bool, true, false, List, [], ◌∷◌, ◌++◌, codes, pos, Result, Ok, Err, refl}
+use Rattle.std.specs.Prelude.{◌≡◌, ℕ, true, false, List, [], ◌∷◌, ◌++◌, codes, pos, Result, Ok, Err, refl}
 use Rattle.unicode_ident.proofs.Computing.{unicode_ident}
 use Rattle.js_value.specs.Text.{sequence_length, encoded}
 use Rattle.es_model.specs.declared.faults.LexFault.{LexFault}

@@ -1,6 +1,6 @@
 -- The early rules (ECMA-262, 13 to 16, with the language's own rules). Each rule is a list of the
 -- places where it fails; a module's fault is the one with the least place, then the least rule.
-use Rattle.std.specs.Prelude.{ℕ, zero, suc, ◌+◌, ◌-◌, ◌*◌, Bool, true, false, not, ◌&&◌, ◌||◌, ◌==◌, nat_lt, nat_le, List, [], ◌∷◌, ◌++◌, map, codes, ℤ, pos, negsuc, Option, Some, None}
+use Rattle.std.specs.Prelude.{ℕ, Bool, true, false, not, ◌&&◌, ◌||◌, ◌==◌, nat_lt, nat_le, List, [], ◌∷◌, ◌++◌, map, codes, ℤ, pos, negsuc, Option, Some, None}
 use Rattle.std.specs.List.{list_any, list_all}
 use Rattle.es_model.specs.declared.faults.EarlyFault.{EarlyFault}
 use Rattle.es_model.specs.declared.faults.EarlyFault.TheVariants.{DuplicateName, DuplicateExport, ExportUndeclared, ReservedName, GlobalAssigned, StrayBreak, StrayContinue, StrayReturn, StraySuper, DeleteName, DuplicateConstructor, IndexAccessor}
@@ -10,10 +10,10 @@ use Rattle.es_model.specs.declared.kinds.MemberKind.{MemberKind}
 use Rattle.es_model.specs.declared.kinds.MemberKind.TheVariants as m
 use Rattle.es_model.specs.declared.names.Identifier.{Identifier}
 use Rattle.es_model.specs.declared.names.Pair.{Pair}
-use Rattle.es_model.specs.Tokens.{same_text, is_digit, number_after, first_is}
+use Rattle.es_model.specs.Tokens.{same_text, is_digit, number_after}
 use Rattle.es_model.specs.Tree as t
 use Rattle.es_model.specs.Tree.{Tree, Text}
-use Rattle.es_model.specs.Scopes.{Enclosing, Binding, Setting, Gathers, gather, find_binding, named, declared, declared_by, declarator_names, declared_in, declared_in_cases, declared_by_head, declared_by_body, declared_by_catch, given_names, written, top_declared, imports, top_setting}
+use Rattle.es_model.specs.Scopes.{Enclosing, Binding, Setting, gather, find_binding, named, declared, declared_by, declared_in, declared_in_cases, declared_by_head, declared_by_body, declared_by_catch, given_names, written, top_declared, imports, top_setting}
 
 abbrev pub Places : Type 0
 Places = List ℕ

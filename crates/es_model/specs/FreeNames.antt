@@ -1,9 +1,8 @@
 -- What a module's functions mention, and where it is held (own rules on places, numbers and lists).
-use Rattle.std.specs.Prelude.{ℕ, zero, suc, ◌+◌, Bool, true, false, not, ◌&&◌, ◌||◌, ◌==◌, List, [], ◌∷◌, ◌++◌, map, length, take, drop, codes, slice_get, Option, Some, None}
+use Rattle.std.specs.Prelude.{ℕ, zero, suc, Bool, true, false, not, ◌&&◌, ◌||◌, ◌==◌, List, [], ◌∷◌, ◌++◌, map, length, take, drop, codes, slice_get, Option, Some, None}
 use Rattle.std.specs.List.{list_any}
 use Rattle.es_model.specs.declared.kinds.FunctionKind.{FunctionKind}
 use Rattle.es_model.specs.declared.kinds.FunctionKind.TheVariants as f
-use Rattle.es_model.specs.declared.kinds.MemberKind.{MemberKind}
 use Rattle.es_model.specs.declared.kinds.MemberKind.TheVariants as m
 use Rattle.es_model.specs.declared.names.Identifier.{Identifier}
 use Rattle.es_model.specs.declared.place.Capture.{Capture}
@@ -113,8 +112,9 @@ abbrev outside : ℕ → List Mention → List Binding
 outside at [] = []
 outside at (one ∷ rest) =
     elim (meant one.what) [
-      Some binding ↦ elim (stands_in at one.round && not (stands_in at binding.lies)) [ true ↦ binding ∷ outside at rest | false ↦ outside at rest ]
-    | None ↦ outside at rest ]
+      | Some binding ↦ elim (stands_in at one.round && not (stands_in at binding.lies)) [ true ↦ binding ∷ outside at rest | false ↦ outside at rest ]
+      | None ↦ outside at rest
+    ]
 
 abbrev distinct_after : List Binding → List Binding → List Binding
 distinct_after before [] = []
@@ -222,9 +222,15 @@ own_place false place = Local place
 -- the place of a binding that is mentioned in the function round a place
 abbrev pub bound_place : Tree (t.list t.item) → List Enclosing → Binding → Place
 bound_place items round binding =
-    elim (role_number binding.role == 1) [ true ↦ Import (index_of binding (outer_list items round)) | false ↦
-    elim (is_top binding || not (same_round round binding.lies)) [ true ↦ Outer (index_of binding (outer_list items round)) | false ↦
-    own_place (captured items binding) (place_of_binding binding (places items round)) ] ]
+    elim (role_number binding.role == 1) [
+      | true ↦ Import (index_of binding (outer_list items round))
+      | false ↦
+          elim (is_top binding || not (same_round round binding.lies)) [
+            | true ↦ Outer (index_of binding (outer_list items round))
+            | false ↦
+                own_place (captured items binding) (place_of_binding binding (places items round))
+          ]
+    ]
 
 abbrev pub mentioned_place : Tree (t.list t.item) → ℕ → List Enclosing → Mentioned → Place
 mentioned_place items number round (Binds binding) = bound_place items round binding
@@ -270,16 +276,18 @@ place_count items number = elim (round_of items number) [ Some round ↦ length 
 unfoldable pub this_cell : Tree (t.list t.item) → ℕ → Option ℕ
 this_cell items number =
     elim (round_of items number) [
-      Some round ↦ elim (this_captured items round) [ true ↦ Some (parameter_count items round) | false ↦ None ]
-    | None ↦ None ]
+      | Some round ↦ elim (this_captured items round) [ true ↦ Some (parameter_count items round) | false ↦ None ]
+      | None ↦ None
+    ]
 
 -- The captures of a function: how it gets each of its free names from the function round it, which
 -- holds the name in a box, or has it in its own outer list.
 abbrev capture : Tree (t.list t.item) → List Enclosing → Binding → Capture
 capture items round binding =
     elim (is_top binding || not (same_round round binding.lies)) [
-      true ↦ record { outer = true; at = index_of binding (outer_list items round) }
-    | false ↦ record { outer = false; at = place_of_binding binding (places items round) } ]
+      | true ↦ record { outer = true; at = index_of binding (outer_list items round) }
+      | false ↦ record { outer = false; at = place_of_binding binding (places items round) }
+    ]
 
 abbrev captures_in : Tree (t.list t.item) → Option (List Enclosing) → List Capture
 captures_in items None = []

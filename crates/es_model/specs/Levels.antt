@@ -3,8 +3,6 @@ use Rattle.std.specs.Prelude.{ℕ, suc, Bool, true, false, codes, Option, Some, 
 use Prim.Native.String.{String}
 use Rattle.es_model.specs.declared.kinds.FunctionKind.{FunctionKind}
 use Rattle.es_model.specs.declared.kinds.FunctionKind.TheVariants as f
-
-
 use Rattle.es_model.specs.declared.kinds.BinaryOperator.{BinaryOperator}
 use Rattle.es_model.specs.declared.kinds.BinaryOperator.TheVariants as b
 use Rattle.es_model.specs.declared.kinds.UnaryOperator.{UnaryOperator}

@@ -1,7 +1,6 @@
 -- Scopes (ECMA-262, 8 and 9): which names are bound where, and where in a text a tree stands.
 use Rattle.std.specs.Prelude.{ℕ, Bool, true, false, List, [], ◌∷◌, ◌++◌, map, codes, Option, Some, None}
 use Rattle.es_model.specs.declared.kinds.FunctionKind.{FunctionKind}
-use Rattle.es_model.specs.declared.kinds.FunctionKind.TheVariants as f
 use Rattle.es_model.specs.declared.names.Identifier.{Identifier}
 use Rattle.es_model.specs.declared.names.Pair.{Pair}
 use Rattle.es_model.specs.Tokens.{same_text}

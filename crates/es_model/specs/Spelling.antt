@@ -1,6 +1,6 @@
 -- Which tokens a tree stands for (ECMA-262, 13 to 16, with the language's own rules). A tree is
 -- spelled by tokens exactly where a reading of it takes them; that it is well-formed is part of it.
-use Rattle.std.specs.Prelude.{◌≡◌, ℕ, ◌≤◌, Bool, true, false, ◌&&◌, ◌||◌, nat_le, List, [], ◌∷◌, codes, ℤ, Option, Some, None}
+use Rattle.std.specs.Prelude.{◌≡◌, ℕ, ◌≤◌, Bool, true, false, ◌&&◌, ◌||◌, nat_le, List, [], ◌∷◌, codes, Option, Some, None}
 use Prim.Native.String.{String}
 use Rattle.es_model.specs.declared.kinds.Semi.{Semi}
 use Rattle.es_model.specs.declared.kinds.Semi.TheVariants as semi
@@ -8,16 +8,14 @@ use Rattle.es_model.specs.declared.kinds.FunctionKind.{FunctionKind}
 use Rattle.es_model.specs.declared.kinds.FunctionKind.TheVariants as f
 use Rattle.es_model.specs.declared.kinds.MemberKind.{MemberKind}
 use Rattle.es_model.specs.declared.kinds.MemberKind.TheVariants as m
-use Rattle.es_model.specs.declared.kinds.BinaryOperator.{BinaryOperator}
 use Rattle.es_model.specs.declared.names.Identifier.{Identifier}
 use Rattle.es_model.specs.declared.names.Pair.{Pair}
 use Rattle.es_model.specs.declared.token.Token.{Token}
-use Rattle.es_model.specs.declared.token.TokenKind.{TokenKind}
 use Rattle.es_model.specs.declared.token.TokenKind.TheVariants as k
 use Rattle.es_model.specs.Tree as t
 use Rattle.es_model.specs.Tree.{Tree, Text}
-use Rattle.es_model.specs.Levels.{operator_sign, operator_level, left_level, right_level, assignment_sign, unary_sign, level, is_nullish, is_bare_new, has_call, is_target, is_declaration, ends_in_short_if, defaults, all_initialised, Holder, InObject, InClass, may_be_fixed, method_kind}
-use Rattle.es_model.specs.Readings.{Tokens, Reading, nothing, never, ◌▸◌, ◌∣◌, given, First, One, the, name, the_name, maybe_name, property, here, same_line, not_first, semicolon, may_miss, may_miss_bare, may_miss_after_do, may_miss_after_export, is_end}
+use Rattle.es_model.specs.Levels.{operator_sign, left_level, right_level, assignment_sign, unary_sign, level, is_nullish, is_bare_new, has_call, is_target, is_declaration, ends_in_short_if, defaults, all_initialised, Holder, InObject, InClass, may_be_fixed, method_kind}
+use Rattle.es_model.specs.Readings.{Tokens, Reading, nothing, never, ◌▸◌, ◌∣◌, given, One, the, name, the_name, maybe_name, property, here, same_line, not_first, semicolon, may_miss, may_miss_bare, may_miss_after_do, may_miss_after_export}
 
 -- An operand of at least a level, and the operand of a call or a member form.
 
@@ -213,7 +211,7 @@ short_member _ _ _ _ = never
 abbrev pub function_member : Holder → ℕ → Bool → MemberKind → Tree t.key → Reading → (FunctionUse → Reading) → Reading
 function_member holder at fixed kind key reading function =
     given (may_be_fixed holder fixed ≡ true)
-      (here at (static_before fixed ▸ accessor_word kind ▸ reading ▸ function (AsMember at (member_function_kind holder fixed kind key) kind)))
+    (here at (static_before fixed ▸ accessor_word kind ▸ reading ▸ function (AsMember at (member_function_kind holder fixed kind key) kind)))
 
 abbrev pub member_reading : Holder → ℕ → Bool → MemberKind → Tree t.key → Reading → Maybe Reading → Maybe (FunctionUse → Reading) → Reading
 member_reading holder at fixed m.Value key reading (There value) LeftOut = value_member holder at fixed reading value
@@ -294,7 +292,6 @@ Spells t.none = []
 Spells (t.more tree trees) = Spells tree ∷ Spells trees
 Spells t.absent = LeftOut
 Spells (t.present tree) = There (Spells tree)
-
 -- expressions
 Spells t.This = the "this"
 Spells t.Null = the "null"
@@ -332,7 +329,6 @@ Spells (t.Nullish left right) = given (is_nullish left || nat_le 6 (level left) 
 Spells (t.Conditional test one other) = least 4 test (Spells test) ▸ the "?" ▸ least 2 one (Spells one) ▸ the ":" ▸ least 2 other (Spells other)
 Spells (t.Assign at to operator value) = here at (target to (Spells to) ▸ assigning (assignment_sign operator) ▸ least 2 value (Spells value))
 Spells (t.Comma left right) = Spells left ▸ the "," ▸ least 2 right (Spells right)
-
 -- members, functions and classes
 Spells (t.KeyWord text) = property text
 Spells (t.KeyString text) = One (λ token. token.kind ≡ k.String text)
@@ -344,7 +340,6 @@ Spells (t.BodyStatements statements) = λ arrow. braces (Spells statements)
 Spells (t.BodyExpression value) = λ arrow. given (arrow ≡ true) (not_first ("{" ∷ []) (least 2 value (Spells value)))
 Spells (t.ClassOf at own t.absent members) = λ named. here at (the "class" ▸ class_name named own ▸ the "{" ▸ class_members false (Spells members) ▸ the "}")
 Spells (t.ClassOf at own (t.present parent) members) = λ named. here at (the "class" ▸ class_name named own ▸ the "extends" ▸ least 17 parent (Spells parent) ▸ the "{" ▸ class_members true (Spells members) ▸ the "}")
-
 -- statements
 Spells t.Empty = the ";"
 Spells (t.Value value semi) = not_first ("{" ∷ "function" ∷ "class" ∷ []) (Spells value) ▸ semicolon may_miss semi
@@ -371,7 +366,6 @@ Spells (t.Try block caught catch finally) = given (GuardsAre caught catch finall
 Spells (t.Switch value cases) = given (defaults cases ≤ 1) (the "switch" ▸ the "(" ▸ Spells value ▸ the ")" ▸ braces (Spells cases))
 Spells (t.CaseOf t.absent body) = the "default" ▸ the ":" ▸ sequence (Spells body)
 Spells (t.CaseOf (t.present test) body) = the "case" ▸ Spells test ▸ the ":" ▸ sequence (Spells body)
-
 -- items: a default export of a function or a class has the mark Missing, which needs no condition
 Spells (t.DefaultFunction function) = λ mark. given (mark ≡ semi.Missing) (Spells function AsDefault)
 Spells (t.DefaultClass class) = λ mark. given (mark ≡ semi.Missing) (Spells class false)

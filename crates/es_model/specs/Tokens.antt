@@ -32,9 +32,15 @@ is_digit c = nat_le 48 c && nat_le c 57
 -- the value of a digit or a letter as a digit; 36 for any other character
 abbrev pub digit_value : ℕ → ℕ
 digit_value c =
-    elim (is_digit c) [ true ↦ c - 48 | false ↦
-    elim (nat_le 97 c && nat_le c 122) [ true ↦ c - 87 | false ↦
-    elim (nat_le 65 c && nat_le c 90) [ true ↦ c - 55 | false ↦ 36 ] ] ]
+    elim (is_digit c) [
+      | true ↦ c - 48
+      | false ↦
+          elim (nat_le 97 c && nat_le c 122) [
+            | true ↦ c - 87
+            | false ↦
+                elim (nat_le 65 c && nat_le c 90) [ true ↦ c - 55 | false ↦ 36 ]
+          ]
+    ]
 
 abbrev pub is_digit_of : ℕ → ℕ → Bool
 is_digit_of base c = nat_lt (digit_value c) base
@@ -113,12 +119,27 @@ longest_from n (row ∷ rows) text =
 -- the character that a letter after a backslash names
 abbrev pub named_by : ℕ → Option ℕ
 named_by c =
-    elim (c == 98) [ true ↦ Some 8 | false ↦
-    elim (c == 116) [ true ↦ Some 9 | false ↦
-    elim (c == 110) [ true ↦ Some 10 | false ↦
-    elim (c == 118) [ true ↦ Some 11 | false ↦
-    elim (c == 102) [ true ↦ Some 12 | false ↦
-    elim (c == 114) [ true ↦ Some 13 | false ↦ None ] ] ] ] ] ]
+    elim (c == 98) [
+      | true ↦ Some 8
+      | false ↦
+          elim (c == 116) [
+            | true ↦ Some 9
+            | false ↦
+                elim (c == 110) [
+                  | true ↦ Some 10
+                  | false ↦
+                      elim (c == 118) [
+                        | true ↦ Some 11
+                        | false ↦
+                            elim (c == 102) [
+                              | true ↦ Some 12
+                              | false ↦
+                                  elim (c == 114) [ true ↦ Some 13 | false ↦ None ]
+                            ]
+                      ]
+                ]
+          ]
+    ]
 
 -- exactly `count` hexadecimal digits stand first
 abbrev pub hexadecimal : ℕ → List ℕ → Bool
@@ -135,7 +156,7 @@ abbrev pub code_point_escape : List ℕ → Option (List ℕ × ℕ)
 code_point_escape text =
     let digits = take_while (is_digit_of 16) text in
     elim (not (length digits == 0) && nat_le (number_after 0 16 digits) 0x10FFFF && first_is (λ c. c == 125) (drop (length digits) text)
-     ) [ true ↦ Some (utf16 (number_after 0 16 digits), length digits + 3) | false ↦ None ]
+    ) [ true ↦ Some (utf16 (number_after 0 16 digits), length digits + 3) | false ↦ None ]
 
 -- `\x` and `\u`, given what stands after the letter
 abbrev pub unicode_escape : List ℕ → Option (List ℕ × ℕ)
@@ -144,16 +165,28 @@ unicode_escape text = elim (first_is (λ c. c == 123) text) [ true ↦ code_poin
 -- `\0`, a line continuation, which stands for nothing, and a character that stands for itself
 abbrev pub plain_escape : ℕ → List ℕ → Option (List ℕ × ℕ)
 plain_escape c text =
-    elim (is_digit c) [ true ↦ elim ((c == 48) && not (first_is is_digit text)) [ true ↦ Some (0 ∷ [], 1) | false ↦ None ] | false ↦
-    elim ((c == 13) && first_is (λ d. d == 10) text) [ true ↦ Some ([], 2) | false ↦
-    elim (is_line_break c) [ true ↦ Some ([], 1) | false ↦ Some (utf16 c, 1) ] ] ]
+    elim (is_digit c) [
+      | true ↦ elim ((c == 48) && not (first_is is_digit text)) [ true ↦ Some (0 ∷ [], 1) | false ↦ None ]
+      | false ↦
+          elim ((c == 13) && first_is (λ d. d == 10) text) [
+            | true ↦ Some ([], 2)
+            | false ↦
+                elim (is_line_break c) [ true ↦ Some ([], 1) | false ↦ Some (utf16 c, 1) ]
+          ]
+    ]
 
 abbrev pub escape : List ℕ → Option (List ℕ × ℕ)
 escape [] = None
 escape (c ∷ text) =
-    elim (c == 120) [ true ↦ hexadecimal_escape 2 text | false ↦
-    elim (c == 117) [ true ↦ unicode_escape text | false ↦
-    elim (named_by c) [ Some d ↦ Some (d ∷ [], 1) | None ↦ plain_escape c text ] ] ]
+    elim (c == 120) [
+      | true ↦ hexadecimal_escape 2 text
+      | false ↦
+          elim (c == 117) [
+            | true ↦ unicode_escape text
+            | false ↦
+                elim (named_by c) [ Some d ↦ Some (d ∷ [], 1) | None ↦ plain_escape c text ]
+          ]
+    ]
 
 -- Strings and templates.
 
@@ -176,9 +209,15 @@ after units count (Err fault) = Err fault
 
 abbrev pub in_string : ℕ → ℕ → Inside
 in_string quote c =
-    elim (c == quote) [ true ↦ Closes | false ↦
-    elim ((c == 10) || (c == 13)) [ true ↦ Breaks | false ↦
-    elim (c == 92) [ true ↦ Escapes | false ↦ Stands ] ] ]
+    elim (c == quote) [
+      | true ↦ Closes
+      | false ↦
+          elim ((c == 10) || (c == 13)) [
+            | true ↦ Breaks
+            | false ↦
+                elim (c == 92) [ true ↦ Escapes | false ↦ Stands ]
+          ]
+    ]
 
 -- The units of a string from inside it up to its closing quote, with the number of characters, the
 -- quote among them. The first `passed` characters were read already; `begun` is the place of the
@@ -188,17 +227,27 @@ string_from quote passed begun at [] = Err (OpenString begun)
 string_from quote (suc passed) begun at (c ∷ cs) = after [] 1 (string_from quote passed begun (at + width c) cs)
 string_from quote zero begun at (c ∷ cs) =
     elim (in_string quote c) [
-      Closes ↦ Ok ([], true, 1)
-    | Escapes ↦ elim (escape cs) [ Some (units, count) ↦ after units 1 (string_from quote count begun (at + 1) cs) | None ↦ Err (BadEscape at) ]
-    | Stands ↦ after (utf16 c) 1 (string_from quote 0 begun (at + width c) cs)
-    | _ ↦ Err (OpenString begun) ]
+      | Closes ↦ Ok ([], true, 1)
+      | Escapes ↦ elim (escape cs) [ Some (units, count) ↦ after units 1 (string_from quote count begun (at + 1) cs) | None ↦ Err (BadEscape at) ]
+      | Stands ↦ after (utf16 c) 1 (string_from quote 0 begun (at + width c) cs)
+      | _ ↦ Err (OpenString begun)
+    ]
 
 abbrev pub in_template : ℕ → List ℕ → Inside
 in_template c cs =
-    elim (c == 96) [ true ↦ Closes | false ↦
-    elim ((c == 36) && first_is (λ d. d == 123) cs) [ true ↦ Substitutes | false ↦
-    elim (c == 13) [ true ↦ Returns | false ↦
-    elim (c == 92) [ true ↦ Escapes | false ↦ Stands ] ] ] ]
+    elim (c == 96) [
+      | true ↦ Closes
+      | false ↦
+          elim ((c == 36) && first_is (λ d. d == 123) cs) [
+            | true ↦ Substitutes
+            | false ↦
+                elim (c == 13) [
+                  | true ↦ Returns
+                  | false ↦
+                      elim (c == 92) [ true ↦ Escapes | false ↦ Stands ]
+                ]
+          ]
+    ]
 
 -- The units of a template's piece from inside it up to its backquote, or to a substitution, with
 -- whether it is the last piece, and with the number of characters, those that end it among them. CR
@@ -208,11 +257,12 @@ template_from passed begun at [] = Err (OpenTemplate begun)
 template_from (suc passed) begun at (c ∷ cs) = after [] 1 (template_from passed begun (at + width c) cs)
 template_from zero begun at (c ∷ cs) =
     elim (in_template c cs) [
-      Closes ↦ Ok ([], true, 1)
-    | Substitutes ↦ Ok ([], false, 2)
-    | Returns ↦ after (10 ∷ []) 1 (template_from (elim (first_is (λ d. d == 10) cs) [ true ↦ 1 | false ↦ 0 ]) begun (at + 1) cs)
-    | Escapes ↦ elim (escape cs) [ Some (units, count) ↦ after units 1 (template_from count begun (at + 1) cs) | None ↦ Err (BadEscape at) ]
-    | _ ↦ after (utf16 c) 1 (template_from 0 begun (at + width c) cs) ]
+      | Closes ↦ Ok ([], true, 1)
+      | Substitutes ↦ Ok ([], false, 2)
+      | Returns ↦ after (10 ∷ []) 1 (template_from (elim (first_is (λ d. d == 10) cs) [ true ↦ 1 | false ↦ 0 ]) begun (at + 1) cs)
+      | Escapes ↦ elim (escape cs) [ Some (units, count) ↦ after units 1 (template_from count begun (at + 1) cs) | None ↦ Err (BadEscape at) ]
+      | _ ↦ after (utf16 c) 1 (template_from 0 begun (at + width c) cs)
+    ]
 
 -- What stands at a place of the text, with the number of its characters after the first: what stands
 -- between tokens (and whether it has a line break), a token, or a fault.
@@ -234,17 +284,24 @@ abbrev pub name_element : ℕ → List ℕ → Element
 name_element c cs =
     let more = take_while is_name_part cs in
     elim (keyword_of (c ∷ more)) [
-      Some n ↦ Word (k.Keyword n) (length more)
-    | None ↦ Word (k.Name (flat_map utf16 (c ∷ more))) (length more) ]
+      | Some n ↦ Word (k.Keyword n) (length more)
+      | None ↦ Word (k.Name (flat_map utf16 (c ∷ more))) (length more)
+    ]
 
 -- Numbers: `0`, digits without a leading zero, or digits of another base.
 
 -- the base that a letter after `0` names; 0 where it names none
 abbrev pub base_of : ℕ → ℕ
 base_of c =
-    elim ((c == 120) || (c == 88)) [ true ↦ 16 | false ↦
-    elim ((c == 111) || (c == 79)) [ true ↦ 8 | false ↦
-    elim ((c == 98) || (c == 66)) [ true ↦ 2 | false ↦ 0 ] ] ]
+    elim ((c == 120) || (c == 88)) [
+      | true ↦ 16
+      | false ↦
+          elim ((c == 111) || (c == 79)) [
+            | true ↦ 8
+            | false ↦
+                elim ((c == 98) || (c == 66)) [ true ↦ 2 | false ↦ 0 ]
+          ]
+    ]
 
 -- `0x`, `0o` and `0b`, given the letter and what stands after it: the value, with the number of
 -- characters after the `0`; of a `0` alone, where no digit of the base stands there
@@ -258,8 +315,9 @@ based_literal base cs =
 abbrev pub number_literal : ℕ → List ℕ → ℕ × ℕ
 number_literal c cs =
     elim (c == 48) [
-      true ↦ elim cs [ [] ↦ (0, 0) | d ∷ ds ↦ based_literal (base_of d) ds ]
-    | false ↦ (number_after 0 10 (c ∷ take_while is_digit cs), length (take_while is_digit cs)) ]
+      | true ↦ elim cs [ [] ↦ (0, 0) | d ∷ ds ↦ based_literal (base_of d) ds ]
+      | false ↦ (number_after 0 10 (c ∷ take_while is_digit cs), length (take_while is_digit cs))
+    ]
 
 -- what may not stand directly after a literal: a point, a digit, or a character of a name
 abbrev pub goes_on : ℕ → Bool
@@ -269,8 +327,9 @@ abbrev pub number_element : ℕ → ℕ → List ℕ → Element
 number_element at c cs =
     let (value, more) = number_literal c cs in
     elim (first_is goes_on (drop more cs)) [
-      true ↦ Wrong (NumberForm at)
-    | false ↦ elim (nat_le value 9007199254740991) [ true ↦ Word (k.Number (pos value)) more | false ↦ Wrong (NumberTooLarge at) ] ]
+      | true ↦ Wrong (NumberForm at)
+      | false ↦ elim (nat_le value 9007199254740991) [ true ↦ Word (k.Number (pos value)) more | false ↦ Wrong (NumberTooLarge at) ]
+    ]
 
 -- the longest sign that a text begins with
 abbrev pub sign_element : ℕ → List ℕ → Element
@@ -317,22 +376,43 @@ closing_element braces at cs =
 
 abbrev pub quoted_element : List Brace → ℕ → ℕ → List ℕ → Element
 quoted_element braces at c cs =
-    elim ((c == 34) || (c == 39)) [ true ↦ read_string at (string_from c 0 at (at + 1) cs) | false ↦
-    elim (c == 96) [ true ↦ read_template true (template_from 0 at (at + 1) cs) | false ↦
-    elim (c == 125) [ true ↦ closing_element braces at cs | false ↦ sign_element at (c ∷ cs) ] ] ]
+    elim ((c == 34) || (c == 39)) [
+      | true ↦ read_string at (string_from c 0 at (at + 1) cs)
+      | false ↦
+          elim (c == 96) [
+            | true ↦ read_template true (template_from 0 at (at + 1) cs)
+            | false ↦
+                elim (c == 125) [ true ↦ closing_element braces at cs | false ↦ sign_element at (c ∷ cs) ]
+          ]
+    ]
 
 abbrev pub word_element : List Brace → ℕ → ℕ → List ℕ → Element
 word_element braces at c cs =
-    elim (is_name_start c) [ true ↦ name_element c cs | false ↦
-    elim (is_digit c) [ true ↦ number_element at c cs | false ↦
-    elim ((c == 46) && first_is is_digit cs) [ true ↦ Wrong (NumberForm at) | false ↦ quoted_element braces at c cs ] ] ]
+    elim (is_name_start c) [
+      | true ↦ name_element c cs
+      | false ↦
+          elim (is_digit c) [
+            | true ↦ number_element at c cs
+            | false ↦
+                elim ((c == 46) && first_is is_digit cs) [ true ↦ Wrong (NumberForm at) | false ↦ quoted_element braces at c cs ]
+          ]
+    ]
 
 abbrev pub element : List Brace → ℕ → ℕ → List ℕ → Element
 element braces at c cs =
-    elim (is_blank c) [ true ↦ Between false 0 | false ↦
-    elim (is_line_break c) [ true ↦ Between true 0 | false ↦
-    elim (begins (codes "//") (c ∷ cs)) [ true ↦ line_comment (behind cs) | false ↦
-    elim (begins (codes "/*") (c ∷ cs)) [ true ↦ block_comment at (behind cs) | false ↦ word_element braces at c cs ] ] ] ]
+    elim (is_blank c) [
+      | true ↦ Between false 0
+      | false ↦
+          elim (is_line_break c) [
+            | true ↦ Between true 0
+            | false ↦
+                elim (begins (codes "//") (c ∷ cs)) [
+                  | true ↦ line_comment (behind cs)
+                  | false ↦
+                      elim (begins (codes "/*") (c ∷ cs)) [ true ↦ block_comment at (behind cs) | false ↦ word_element braces at c cs ]
+                ]
+          ]
+    ]
 
 -- the braces that are open after a token
 abbrev pub after_template : ℕ → Bool → Bool → List Brace → List Brace
@@ -362,9 +442,10 @@ parts_of passed braces at [] = record { at = at; element = ending braces; spelli
 parts_of (suc passed) braces at (c ∷ cs) = parts_of passed braces (at + width c) cs
 parts_of zero braces at (c ∷ cs) =
     elim (element braces at c cs) [
-      Between line more ↦ record { at = at; element = Between line more; spelling = c ∷ take more cs } ∷ parts_of more braces (at + width c) cs
-    | Word kind more ↦ record { at = at; element = Word kind more; spelling = c ∷ take more cs } ∷ parts_of more (braces_after at kind braces) (at + width c) cs
-    | Wrong fault ↦ record { at = at; element = Wrong fault; spelling = c ∷ cs } ∷ [] ]
+      | Between line more ↦ record { at = at; element = Between line more; spelling = c ∷ take more cs } ∷ parts_of more braces (at + width c) cs
+      | Word kind more ↦ record { at = at; element = Word kind more; spelling = c ∷ take more cs } ∷ parts_of more (braces_after at kind braces) (at + width c) cs
+      | Wrong fault ↦ record { at = at; element = Wrong fault; spelling = c ∷ cs } ∷ []
+    ]
 
 -- the tokens among parts, or the fault; `line` says that a line break stands before the first
 abbrev pub before : Token → Result (List Token) LexFault → Result (List Token) LexFault
@@ -375,9 +456,10 @@ abbrev pub tokens_in : Bool → List Part → Result (List Token) LexFault
 tokens_in line [] = Ok []
 tokens_in line (part ∷ parts) =
     elim part.element [
-      Between breaks more ↦ tokens_in (line || breaks) parts
-    | Word kind more ↦ before (record { kind = kind; at = part.at; line_before = line }) (tokens_in false parts)
-    | Wrong fault ↦ Err fault ]
+      | Between breaks more ↦ tokens_in (line || breaks) parts
+      | Word kind more ↦ before (record { kind = kind; at = part.at; line_before = line }) (tokens_in false parts)
+      | Wrong fault ↦ Err fault
+    ]
 
 -- the place of the first byte that belongs to no well-formed sequence, among sequences from `at` on
 abbrev pub is_bad : List ℕ → Bool
@@ -396,5 +478,6 @@ characters_of bytes = map scalar_value (parts sequence_length bytes)
 unfoldable pub tokens_of : List ℕ → Result (List Token) LexFault
 tokens_of bytes =
     elim (first_bad 0 (parts sequence_length bytes)) [
-      Some at ↦ Err (NotUtf8 at)
-    | None ↦ tokens_in false (parts_of 0 [] 0 (characters_of bytes)) ]
+      | Some at ↦ Err (NotUtf8 at)
+      | None ↦ tokens_in false (parts_of 0 [] 0 (characters_of bytes))
+    ]

@@ -1,5 +1,5 @@
 -- The bytes of a module's code, text by text.
-use Rattle.std.proofs.Common.{◌≡◌, ◌≤◌, ◌<◌, ◌∙◌, ◌++◌, ◌+◌, ℕ, List, [], ◌∷◌, length, drop, get_or, refl, ap, sym, append_assoc}
+use Rattle.std.proofs.Common.{◌≡◌, ◌≤◌, ◌<◌, ◌∙◌, ◌++◌, ◌+◌, ℕ, List, ◌∷◌, length, drop, get_or, ap, sym, append_assoc}
 use Rattle.std.proofs.lemmas.List.{at_drop_more, at_drop_all}
 use Rattle.byte_code.specs.declared.instruction.Op.TheVariants as op
 use Rattle.byte_code.specs.Instructions.{spelling}

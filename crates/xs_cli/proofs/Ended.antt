@@ -1,19 +1,18 @@
 -- What a text's end says of its answer, and what the table of ends says of the status.
-use Rattle.std.proofs.Common.{◌≡◌, ◌≢◌, ◌↔◌, ◌≤◌, ◌<◌, ◌+◌, ◌∙◌, ◌⊎◌, inl, inr, ℕ, Bool, true, false, suc, List, [], ◌∷◌, ◌++◌, ◌&&◌, length, append-nil, Option, Some, None, IfSome, Result, Ok, Err, option_map, nat_le, if◌then◌else◌, ap, sym, refl, subst, arith, rules}
+use Rattle.std.proofs.Common.{◌≡◌, ◌≢◌, ◌↔◌, ◌≤◌, ◌+◌, ◌∙◌, ℕ, Bool, true, false, List, [], ◌∷◌, ◌++◌, ◌&&◌, length, append-nil, Option, Some, None, IfSome, Result, Ok, Err, option_map, nat_le, if◌then◌else◌, ap, sym, refl, subst, arith, rules}
 use Rattle.std.specs.Io.KnownBytes.{Appends, Keeps}
 use Rattle.std.specs.FinMap as map
 use Rattle.std.specs.List.{list_all}
 use Rattle.std.specs.FinMap.{gets}
 use borrow.Author.Tests.{leb-true}
 use Rattle.xs_base.specs.Held.{Contents, held, Gives}
-use Rattle.xs_base.specs.Outside.{HasCause, Receives, Rose, SentInPart}
-use Rattle.es_model.specs.Boot.{Told, told, run}
+use Rattle.xs_base.specs.Outside.{HasCause, Receives, SentInPart}
 use Rattle.es_model.specs.Host.{written}
 use Rattle.js_value.specs.Text.{units}
-use Rattle.xs_cli.specs.Thin.{Thin, Blank, Prints, thin, whole, parts, strings, joined, cut_by, is_quote, spells, end_tokens, print_tokens, is_plain, texts_of, tree_of, most_bytes}
-use Rattle.xs_cli.specs.Answer.{Word, Answer, answer, of_words, of_file, of_thin, file_of, budget, refusal}
+use Rattle.xs_cli.specs.Thin.{Thin, Blank, Prints, thin, whole, parts, strings, joined, cut_by, is_quote, spells, end_tokens, print_tokens, is_plain, texts_of, most_bytes}
+use Rattle.xs_cli.specs.Answer.{Word, answer, of_words, of_file, of_thin, file_of, budget, refusal}
 use Rattle.xs_cli.specs.Prints.{events_of, PrintsTexts}
-use Rattle.xs_cli.specs.Ends.{Outside, Ends, EndsText, IsCutShort, LineTold, Ended, Gave, NamesFile, IsAnswered, status_of}
+use Rattle.xs_cli.specs.Ends.{Outside, Ends, EndsText, IsCutShort, LineTold, Ended, IsAnswered, status_of}
 use Rattle.xs_cli.specs.declared.top.End.{End}
 use Rattle.xs_cli.specs.declared.top.End.TheVariants as end
 use Rattle.xs_cli.proofs.Prints.{module_told, empty_told}

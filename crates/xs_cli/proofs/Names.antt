@@ -1,11 +1,11 @@
 -- The names of a module, and their numbers.
-use Rattle.std.proofs.Common.{◌≡◌, ◌≤◌, ◌<◌, ◌∙◌, ◌++◌, ◌+◌, ℕ, zero, suc, Bool, true, false, cond, nat_lt, List, [], ◌∷◌, length, Option, Some, None, is_some, unwrap_or, if◌then◌else◌, length-append, slice_get, get_or, drop, not, refl, ap, sym, subst, arith}
+use Rattle.std.proofs.Common.{◌≡◌, ◌≤◌, ◌<◌, ◌∙◌, ◌++◌, ◌+◌, ℕ, Bool, true, false, cond, nat_lt, List, [], ◌∷◌, length, Some, None, unwrap_or, if◌then◌else◌, length-append, get_or, drop, not, refl, ap, sym, arith}
 use Rattle.std.specs.List.{position, position_or_len}
 use Rattle.std.specs.Str.{bytes_eq}
-use borrow.Author.Tests.{ltb-true, ltb-false}
+use borrow.Author.Tests.{ltb-false}
 use Rattle.std.proofs.lemmas.List.Sums.{prefix_len-le-length}
 use Rattle.std.proofs.lemmas.List.{at_drop_more, at_drop_all}
-use Rattle.xs_cli.specs.Code.{has_name, with_name, with_names, names_of, number}
+use Rattle.xs_cli.specs.Code.{has_name, with_name, with_names, names_of}
 
 pub with_name_old : (names : List (List ℕ)) (text : List ℕ) → has_name names text ≡ true → with_name names text ≡ names
 with_name_old names text h = rw h refl

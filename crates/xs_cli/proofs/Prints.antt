@@ -1,11 +1,11 @@
 -- A module that prints texts: what its code does in the machine, and what its evaluation does.
-use Rattle.std.proofs.Common.{◌≡◌, ◌≤◌, ◌<◌, ◌∙◌, ◌+◌, ◌++◌, ℕ, zero, suc, Bool, true, false, cond, not, nat_lt, List, [], ◌∷◌, length, Option, Some, None, is_some, option_map, slice_get, codes, if◌then◌else◌, refl, ap, sym, subst, arith, append_assoc, append-nil, lit<, ◌^◌}
-use Rattle.std.specs.List.{position, position_or_len, find}
+use Rattle.std.proofs.Common.{◌≡◌, ◌≤◌, ◌<◌, ◌∙◌, ◌+◌, ◌++◌, ℕ, zero, suc, Bool, true, false, cond, not, nat_lt, List, [], ◌∷◌, length, Option, Some, None, is_some, codes, if◌then◌else◌, refl, ap, sym, arith, append_assoc, append-nil, lit<, ◌^◌}
+use Rattle.std.specs.List.{find}
 use Rattle.std.specs.Str.{bytes_eq}
 use Rattle.std.proofs.lemmas.Slice.Eq.{bytes_eq-Decides}
 use Rattle.std.proofs.lemmas.List.Folds.{find_at}
 use Rattle.std.proofs.lemmas.List.Sums.{prefix_len-le-length}
-use borrow.Author.Tests.{ltb-true, ltb-false}
+use borrow.Author.Tests.{ltb-true}
 use Rattle.byte_code.specs.declared.instruction.Op.{Op}
 use Rattle.byte_code.specs.declared.instruction.Op.TheVariants as op
 use Rattle.byte_code.specs.Instructions.{IsInstruction, IsShortest, parts}
@@ -14,8 +14,8 @@ use Rattle.es_model.specs.Tree as t
 use Rattle.es_model.specs.Tree.{Tree, Text}
 use Rattle.es_model.specs.State.{TraceEvent}
 use Rattle.es_model.specs.Host.{written, line_events}
-use Rattle.es_model.specs.Evaluation.{Environment, Cell, HostCell, Print, State, Normal, Run, meaning, find as bound, evaluator}
-use Rattle.es_model.specs.Boot.{top_level, run, start, told, Told}
+use Rattle.es_model.specs.Evaluation.{Environment, HostCell, Print, State, Normal, Run, meaning, find as bound, evaluator}
+use Rattle.es_model.specs.Boot.{top_level, run, told}
 use Rattle.xs_cli.specs.Code.{has_name, with_name, with_names, names_of, number, print_text, body, AreInstructions}
 use Rattle.xs_cli.specs.Machine.{runs, name_at}
 use Rattle.xs_cli.specs.Prints.{events_of}

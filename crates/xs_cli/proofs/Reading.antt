@@ -1,8 +1,8 @@
 -- What the parts of a text say of the strings that it prints.
-use Rattle.std.proofs.Common.{◌≡◌, ◌∙◌, ◌++◌, ◌&&◌, ℕ, Bool, true, false, List, [], ◌∷◌, Option, Some, None, option_map, if◌then◌else◌, refl, ap, sym, length, nat_le}
+use Rattle.std.proofs.Common.{◌≡◌, ◌∙◌, ◌++◌, ◌&&◌, ℕ, Bool, true, false, List, [], ◌∷◌, Some, None, option_map, if◌then◌else◌, refl, ap, length, nat_le}
 use Rattle.std.specs.List.{list_all}
 use Rattle.js_value.specs.Text.{units}
-use Rattle.xs_cli.specs.Thin.{parts, spells, strings, end_tokens, print_tokens, is_plain, Prints, Thin, thin, whole, most_bytes}
+use Rattle.xs_cli.specs.Thin.{parts, spells, strings, end_tokens, print_tokens, is_plain, thin, whole, most_bytes}
 
 either : {A : Type 0} (b : Bool) (a : A) → (if b then a else a) ≡ a
 either true a = refl

@@ -1,5 +1,5 @@
 -- What the program answers, as one function of its words and of what the files hold. Own rules.
-use Rattle.std.specs.Prelude.{◌&&◌, ◌==◌, ℕ, Bool, true, false, not, List, [], ◌∷◌, Option, Some, None, codes, if◌then◌else◌}
+use Rattle.std.specs.Prelude.{◌&&◌, ◌==◌, ℕ, Bool, false, not, List, [], ◌∷◌, Option, Some, None, codes, if◌then◌else◌}
 use Rattle.std.specs.Str.{bytes_eq}
 use Rattle.xs_base.specs.Held.{Contents, held}
 use Rattle.es_model.specs.Boot.{Told, told, run}

@@ -1,5 +1,5 @@
 -- What stands before a string of a thin text, and what comes next.
-use Rattle.std.specs.Prelude.{◌≡◌, ◌<◌, ℕ, Bool, true, false, List, [], ◌∷◌, length, Option, Some, None, option_map}
+use Rattle.std.specs.Prelude.{◌≡◌, ◌<◌, ℕ, Bool, true, false, List, [], ◌∷◌, length, Some, None, option_map}
 use Rattle.js_value.specs.Text.{units}
 use Rattle.xs_cli.specs.Thin.{parts, strings}
 use Rattle.xs_cli.specs.declared.thin.Before.{Before}

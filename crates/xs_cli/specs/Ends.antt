@@ -5,7 +5,7 @@ use Rattle.std.specs.Io.KnownBytes.{Appends, Keeps}
 use Rattle.xs_base.specs.Held.{Contents, held, Gives}
 use Rattle.xs_base.specs.Outside.{Rose, SentInPart}
 use Rattle.xs_cli.specs.Thin.{thin}
-use Rattle.xs_cli.specs.Answer.{Word, Answer, answer, of_thin, file_of}
+use Rattle.xs_cli.specs.Answer.{Word, answer, of_thin, file_of}
 use Rattle.xs_cli.specs.declared.top.End.{End}
 use Rattle.xs_cli.specs.declared.top.End.TheVariants as end
 

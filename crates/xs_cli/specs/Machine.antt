@@ -1,6 +1,6 @@
 -- The machine that runs a thin module's code: what each of the six instructions does to the operand stack
 -- (its top comes first), and what it writes. Own rules.
-use Rattle.std.specs.Prelude.{ℕ, zero, suc, ◌==◌, ◌++◌, ◌≡◌, Bool, true, false, List, [], ◌∷◌, length, Option, Some, None, option_map, nat_lt, slice_get}
+use Rattle.std.specs.Prelude.{ℕ, zero, suc, ◌==◌, ◌++◌, Bool, true, false, List, [], ◌∷◌, length, Option, Some, None, option_map, nat_lt, slice_get}
 use Rattle.es_model.specs.Tree.{Text}
 use Rattle.es_model.specs.State.{TraceEvent}
 use Rattle.es_model.specs.Host.{line_events}

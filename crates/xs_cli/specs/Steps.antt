@@ -1,12 +1,9 @@
 -- What a call of the machine leaves, by what the definition of its instructions says.
-use Rattle.std.specs.Prelude.{◌≡◌, ◌≤◌, ◌++◌, ℕ, List, [], Option, Some, Result, Ok, Err, length, drop}
+use Rattle.std.specs.Prelude.{◌≡◌, ℕ, List, Option, Result, Ok, Err}
 use Rattle.std.specs.Io.KnownBytes.{Appends, Keeps}
 use Rattle.xs_base.specs.Outside.{Rose, SentInPart}
-use Rattle.es_model.specs.State.{TraceEvent}
 use Rattle.es_model.specs.Host.{written}
-use Rattle.byte_code.specs.declared.instruction.Op.{Op}
-use Rattle.xs_cli.specs.Code.{spelled, AreInstructions}
-use Rattle.xs_cli.specs.Machine.{Stepped, Goes, Returned, Stuck, runs}
+use Rattle.xs_cli.specs.Machine.{Stepped, Goes, Returned, Stuck}
 use Rattle.xs_cli.specs.declared.machine.stack.Value.{Value}
 use Rattle.xs_cli.specs.declared.machine.Flow.{Flow}
 use Rattle.xs_cli.specs.declared.machine.Flow.TheVariants as flow

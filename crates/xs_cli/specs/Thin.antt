@@ -1,6 +1,6 @@
 -- The texts that the program runs today, and their trees. A thin text is blank, or it imports print from
 -- the host and then prints strings, one after another. Own rule, for as long as there is no parser.
-use Rattle.std.specs.Prelude.{ℕ, ◌==◌, ◌||◌, ◌&&◌, ◌++◌, Bool, true, false, not, List, [], ◌∷◌, length, map, Option, Some, None, option_map, codes, nat_le, if◌then◌else◌}
+use Rattle.std.specs.Prelude.{ℕ, ◌==◌, ◌||◌, ◌&&◌, ◌++◌, Bool, true, false, not, List, [], ◌∷◌, length, Option, Some, None, option_map, codes, nat_le, if◌then◌else◌}
 use Rattle.std.specs.List.{list_all}
 use Rattle.std.specs.Str.{bytes_eq}
 use Rattle.js_value.specs.Text.{units}

@@ -1,4 +1,4 @@
-use Rattle.std.proofs.Common.{◌∙◌, ◌++◌, ◌∷◌, [], ap, sym, is_some}
+use Rattle.std.proofs.Common.{◌∙◌, ◌++◌, ◌∷◌, [], ap, sym}
 use Rattle.xs_cli.proofs.Names.{with_name_old, with_name_new}
 use Rattle.xs_cli.proofs.code.add_name.Goals as goal
 

@@ -1,4 +1,4 @@
-use Rattle.std.proofs.Common.{◌∙◌, arith}
+use Rattle.std.proofs.Common.{arith}
 use Rattle.xs_cli.proofs.Codes.{code_more, code_end}
 use Rattle.xs_cli.proofs.code.code.Goals as goal
 

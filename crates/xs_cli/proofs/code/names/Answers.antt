@@ -1,4 +1,4 @@
-use Rattle.std.proofs.Common.{◌∙◌, arith}
+use Rattle.std.proofs.Common.{arith}
 use Rattle.xs_cli.proofs.Names.{names_more, names_end}
 use Rattle.xs_cli.proofs.code.names.Goals as goal
 

@@ -1,7 +1,6 @@
-use Rattle.std.proofs.Common.{◌≡◌, ◌∙◌, ◌++◌, drop, ap, sym, arith}
+use Rattle.std.proofs.Common.{◌∙◌}
 use Rattle.std.proofs.lemmas.Result.{err_from_is_err_and}
-use Rattle.xs_base.proofs.Writes.{Sent-more, SentInPart-after}
-use Rattle.xs_cli.specs.Line.{line_bytes}
+use Rattle.xs_base.proofs.Writes.{Sent-more}
 use Rattle.xs_cli.proofs.line.print_line.Goals as goal
 
 pub returns-in_err-units-clause-bytes : goal.returns-in_err-units-clause-bytes

@@ -1,9 +1,9 @@
-use Rattle.std.proofs.Common.{◌≡◌, ◌<◌, ◌∙◌, length, subst, sym, arith}
+use Rattle.std.proofs.Common.{◌<◌, ◌∙◌, length, subst, sym, arith}
 use Rattle.std.proofs.lemmas.Result.{err_from_is_err_and}
 use Rattle.std.specs.Io.KnownBytes.{Appends}
 use Rattle.xs_base.specs.Outside.{SentInPart}
 use Rattle.js_value.proofs.Pieces.{length-utf8-piece}
-use Rattle.xs_cli.proofs.Fronts.{front_part, whole_line, buffered, buffered_end, fault_in_front, one_piece, some_text}
+use Rattle.xs_cli.proofs.Fronts.{whole_line, buffered, buffered_end, fault_in_front, one_piece, some_text}
 use Rattle.xs_cli.proofs.line.write_front.Goals as goal
 use Rattle.xs_cli.proofs.line.write_front.Goals.{then-units-text-via-then-units-text, then-units-text-via-else-units-text+then-bytes-eq64}
 

@@ -1,4 +1,4 @@
-use Rattle.std.proofs.Common.{◌∙◌, sym}
+use Rattle.std.proofs.Common.{sym}
 use Rattle.xs_cli.proofs.Cuts.{cut_some, cut_none, drop_one}
 use Rattle.xs_cli.proofs.thin.cut.Goals as goal
 

@@ -1,4 +1,3 @@
-use Rattle.std.proofs.Common.{arith}
 use Rattle.xs_cli.proofs.Ended.{few_texts, ends_printed}
 use Rattle.xs_cli.proofs.top.eval_text.Goals as goal
 

@@ -1,5 +1,5 @@
 use Rattle.std.proofs.lemmas.Result.{err_from_is_err_and}
-use Rattle.std.proofs.Common.{◌∙◌, append_assoc}
+use Rattle.std.proofs.Common.{append_assoc}
 use Rattle.xs_base.proofs.Writes.{Receives-then, SentInPart-longer, SentInPart-after}
 use Rattle.std.proofs.KnownBytes.{Appends-trans}
 use Rattle.xs_cli.proofs.top.send.Goals as goal
