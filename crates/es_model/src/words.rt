@@ -6,16 +6,76 @@ ghost use Rattle.es_model.specs.Tokens.{keywords, signs, keyword_of, place_from}
 use js_value::Case;
 
 // The list of keywords ascends, so that a keyword's row is its place.
-const KEYWORDS: [&'static str; 46] = ["await", "break", "case", "catch", "class", "const", "continue", "debugger", "default", "delete", "do", "else", "enum", "export", "extends", "false", "finally", "for", "function", "if", "implements", "import", "in", "instanceof", "interface", "let", "new", "null", "package", "private", "protected", "public", "return", "static", "super", "switch", "this", "throw", "true", "try", "typeof", "var", "void", "while", "with", "yield"];
+const KEYWORDS: [&'static str; 46] = [
+    "await",
+    "break",
+    "case",
+    "catch",
+    "class",
+    "const",
+    "continue",
+    "debugger",
+    "default",
+    "delete",
+    "do",
+    "else",
+    "enum",
+    "export",
+    "extends",
+    "false",
+    "finally",
+    "for",
+    "function",
+    "if",
+    "implements",
+    "import",
+    "in",
+    "instanceof",
+    "interface",
+    "let",
+    "new",
+    "null",
+    "package",
+    "private",
+    "protected",
+    "public",
+    "return",
+    "static",
+    "super",
+    "switch",
+    "this",
+    "throw",
+    "true",
+    "try",
+    "typeof",
+    "var",
+    "void",
+    "while",
+    "with",
+    "yield",
+];
 
 // In ascending order.
-const SIGNS: [&'static str; 52] = ["!", "!=", "!==", "%", "%=", "&", "&&", "&=", "(", ")", "*", "**", "**=", "*=", "+", "++", "+=", ",", "-", "--", "-=", ".", "/", "/=", ":", ";", "<", "<<", "<<=", "<=", "=", "==", "===", "=>", ">", ">=", ">>", ">>=", ">>>", ">>>=", "?", "??", "[", "]", "^", "^=", "{", "|", "|=", "||", "}", "~"];
+const SIGNS: [&'static str; 52] = [
+    "!", "!=", "!==", "%", "%=", "&", "&&", "&=", "(", ")", "*", "**", "**=", "*=", "+", "++",
+    "+=", ",", "-", "--", "-=", ".", "/", "/=", ":", ";", "<", "<<", "<<=", "<=", "=", "==", "===",
+    "=>", ">", ">=", ">>", ">>=", ">>>", ">>>=", "?", "??", "[", "]", "^", "^=", "{", "|", "|=",
+    "||", "}", "~",
+];
 
 // The place of each row.
-const SIGN_PLACES: [u8; 52] = [31, 14, 16, 21, 43, 28, 33, 48, 2, 3, 19, 22, 44, 41, 17, 23, 39, 7, 18, 24, 40, 8, 20, 42, 37, 6, 9, 25, 45, 11, 38, 13, 15, 51, 10, 12, 26, 46, 27, 47, 36, 35, 4, 5, 30, 50, 0, 29, 49, 34, 1, 32];
+const SIGN_PLACES: [u8; 52] = [
+    31, 14, 16, 21, 43, 28, 33, 48, 2, 3, 19, 22, 44, 41, 17, 23, 39, 7, 18, 24, 40, 8, 20, 42, 37,
+    6, 9, 25, 45, 11, 38, 13, 15, 51, 10, 12, 26, 46, 27, 47, 36, 35, 4, 5, 30, 50, 0, 29, 49, 34,
+    1, 32,
+];
 
 // The row of each place.
-const SIGN_ROWS: [u8; 52] = [46, 50, 8, 9, 42, 43, 25, 17, 21, 26, 34, 29, 35, 31, 1, 32, 2, 14, 18, 10, 22, 3, 11, 15, 19, 27, 36, 38, 5, 47, 44, 0, 51, 6, 49, 41, 40, 24, 30, 16, 20, 13, 23, 4, 12, 28, 37, 39, 7, 48, 45, 33];
+const SIGN_ROWS: [u8; 52] = [
+    46, 50, 8, 9, 42, 43, 25, 17, 21, 26, 34, 29, 35, 31, 1, 32, 2, 14, 18, 10, 22, 3, 11, 15, 19,
+    27, 36, 38, 5, 47, 44, 0, 51, 6, 49, 41, 40, 24, 30, 16, 20, 13, 23, 4, 12, 28, 37, 39, 7, 48,
+    45, 33,
+];
 
 /// The place of a keyword in the list of keywords, from 0; None where the text is no keyword. It takes no
 /// memory.
