@@ -1,0 +1,16 @@
+pub mod Begun
+pub mod Chains
+pub mod Edited
+pub mod Linked
+pub mod Tables
+pub mod Walks
+pub mod Written
+pub mod Rewritten
+pub mod Makes
+pub mod Grown
+mod Addresses
+pub mod Ranks
+pub mod Flat
+pub mod Growth
+pub mod Things
+pub mod Stands

@@ -1,0 +1,35 @@
+use Rattle.std.proofs.Common.{ap, sym, refl, ◌∙◌, subst, arith, length, ◌≡◌, ◌≤◌, ◌<◌, ◌+◌, ◌-◌, ◌++◌, ◌∷◌, [], ℕ}
+use Rattle.slot_heap.specs.Shown.{Low, low, all}
+use Rattle.slot_heap.specs.Steps.{Added, Replaced, Removed}
+use Rattle.slot_heap.specs.Writes.{with_ram, put_behind, put_over, put_past}
+use Rattle.slot_heap.proofs.Written.{Sound, stands_at, added, written, kept_after}
+use Rattle.slot_heap.proofs.slots.Slots.link.Goals as goal
+
+pub overflow_sub-after : goal.overflow_sub-after
+overflow_sub-after c = (stands_at _ _ _ _ c.chained.ensures.chained c.requires.of_it.1).above
+
+pub link_slots-requires-clause-within : goal.link_slots-requires-clause-within
+link_slots-requires-clause-within c =
+    let w = stands_at _ _ _ _ c.chained.ensures.chained c.requires.of_it.1 in
+    let e = w.address_is in
+    let l = w.within in
+    let n = ap (λ (h : Low). length h.ram) c.self.view_is in
+    omega (arith, c.self.inside.ram.ok.0)
+
+pub invariant_of-self : goal.invariant_of-self
+invariant_of-self c =
+    let v = c.self.view_is in
+    let n = ap (λ (h : Low). length h.ram) v in
+    let at : c.len.result + 1 ≡ length c.self.inside.ram.items + 1 = omega (arith, c.self.inside.ram.ok.0) in
+    let w = written (λ s. put_behind s (c.args.after.0 - 1) c.args.slot (length s + 1)) _ _ _ _ v (c.link_slots.ensures.items ∙ ap (λ m. put_behind c.self.inside.ram.items (c.args.after.0 - 1) c.args.slot m) at) in
+    let o = added _ _ _ _ c.args.slot c.chained.ensures.chained c.requires.of_it.1 c.requires.part in
+    let room = c.requires.room in
+    let r = ap (λ (h : Low). h.reserved) v in
+    kept_after _ _ _ _ _ _ c.self.invariant (subst Sound (sym w) o.0) (refl) (omega (arith, c.self.inside.ram.ok.0)) c.link_slots.ensures.capacity
+
+pub returns-clause-added : goal.returns-clause-added
+returns-clause-added c = λ k s.
+    let v = c.self.view_is in
+    let at : c.len.result + 1 ≡ length c.self.inside.ram.items + 1 = omega (arith, c.self.inside.ram.ok.0) in
+    let w = written (λ s. put_behind s (c.args.after.0 - 1) c.args.slot (length s + 1)) _ _ _ _ v (c.link_slots.ensures.items ∙ ap (λ m. put_behind c.self.inside.ram.items (c.args.after.0 - 1) c.args.slot m) at) in
+    subst (λ h. Added c.args.self.now c.args.r.0 k c.args.slot h) (sym w) (added _ _ _ _ c.args.slot c.chained.ensures.chained s c.requires.part).1

@@ -1,0 +1,33 @@
+use Rattle.std.proofs.Common.{ap, sym, refl, ◌∙◌, subst, arith, length, ◌≡◌, ◌≤◌, ◌<◌, ◌+◌, ◌-◌, ◌++◌, ◌∷◌, [], ℕ}
+use Rattle.slot_heap.specs.Shown.{Low, low, all}
+use Rattle.slot_heap.specs.Steps.{Added, Replaced, Removed}
+use Rattle.slot_heap.specs.Writes.{with_ram, put_behind, put_over, put_past}
+use Rattle.slot_heap.proofs.Written.{Sound, stands_at, added, written, kept_after}
+use Rattle.slot_heap.proofs.Rewritten.{replaced}
+use Rattle.slot_heap.proofs.slots.Slots.put.Goals as goal
+
+pub overflow_sub-at : goal.overflow_sub-at
+overflow_sub-at c = (stands_at _ _ _ _ c.chained.ensures.chained c.requires.of_it.3).above
+
+pub put_slot-requires : goal.put_slot-requires
+put_slot-requires c =
+    let w = stands_at _ _ _ _ c.chained.ensures.chained c.requires.of_it.3 in
+    let e = w.address_is in
+    let l = w.within in
+    let n = ap (λ (h : Low). length h.ram) c.self.view_is in
+    omega (arith, c.self.inside.ram.ok.0)
+
+pub invariant_of-self : goal.invariant_of-self
+invariant_of-self c =
+    let v = c.self.view_is in
+    let w = written (λ s. put_over s (c.args.at.0 - 1) c.args.slot) _ _ _ _ v c.put_slot.ensures.items in
+    let o = replaced _ _ _ _ c.args.slot c.chained.ensures.chained c.requires.of_it.3 c.requires.kind in
+    let k = c.self.invariant.within in
+    let n = c.put_slot.ensures.len in
+    kept_after _ _ _ _ _ _ c.self.invariant (subst Sound (sym w) o.0) refl (omega arith) c.put_slot.ensures.capacity
+
+pub returns-clause-replaced : goal.returns-clause-replaced
+returns-clause-replaced c = λ r k s.
+    let v = c.self.view_is in
+    let w = written (λ s. put_over s (c.args.at.0 - 1) c.args.slot) _ _ _ _ v c.put_slot.ensures.items in
+    subst (λ h. Replaced c.args.self.now r k c.args.slot h) (sym w) (replaced _ _ _ _ c.args.slot c.chained.ensures.chained s c.requires.kind).1

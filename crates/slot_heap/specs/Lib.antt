@@ -1,0 +1,12 @@
+pub mod Chains
+pub mod Queue
+pub mod Shown
+pub mod Slot
+pub mod Steps
+pub mod Walk
+pub mod Writes
+pub mod Texts
+pub mod Held
+pub mod Reading
+pub mod Flat
+pub mod Standing

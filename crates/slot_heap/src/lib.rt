@@ -1,0 +1,18 @@
+//! The store of the machine: slots in chains, texts, names and jobs in room that is reserved once.
+#![tactic(auto)]
+
+mod heap;
+mod jobs;
+mod reserve;
+mod rom;
+mod slot;
+mod slots;
+mod texts;
+
+pub use heap::Heap;
+pub use reserve::Reserve;
+pub use rom::Rom;
+pub use slot::{Full, Job, Key, Kind, Ref, Room, Slot, SlotAt, Value};
+
+#[cfg(test)]
+mod tests;
