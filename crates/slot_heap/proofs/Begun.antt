@@ -1,12 +1,12 @@
 -- A thing of one slot is made behind all others.
-use Rattle.std.proofs.Common.{◌≡◌, ℕ, suc, zero, ◌+◌, ◌-◌, ◌<◌, ◌≤◌, ◌≢◌, ◌⊎◌, inl, inr, Bool, true, false, cond, List, [], ◌∷◌, ◌++◌, length, get_or, map, refl, ap, sym, ◌∙◌, arith, Option, Some, None}
+use Rattle.std.proofs.Common.{◌≡◌, ℕ, suc, ◌<◌, ◌≢◌, ◌⊎◌, inl, inr, Bool, true, false, cond, List, [], ◌∷◌, ◌++◌, length, get_or, refl, ap, sym, ◌∙◌, arith, Some, None}
 use Rattle.std.specs.Prelude.{IsTrue}
 use Rattle.std.proofs.lemmas.Bool.{cases_eq, cases_lt}
 use Rattle.std.proofs.lemmas.List.{get_or_past, get_or_push, get_or_append_left, length_push}
 use Rattle.slot_heap.specs.declared.slot.Slot.{Slot}
 use Rattle.slot_heap.specs.Slot.{blank}
 use Rattle.slot_heap.specs.Walk.{IsWalk, Has}
-use Rattle.slot_heap.specs.Chains.{step_of, chain, cell, entry, table, Chained, cells_at, thing_in, shown_in}
+use Rattle.slot_heap.specs.Chains.{step_of, chain, cell, Chained, cells_at, thing_in, shown_in}
 use Rattle.slot_heap.proofs.Walks.{walk_frame}
 use Rattle.slot_heap.proofs.Tables.{table_same}
 use Rattle.slot_heap.proofs.Chains.{map_has, length_chain, chain_is}

@@ -1,9 +1,9 @@
 -- Chains and lists of places.
-use Rattle.std.proofs.Common.{◌≡◌, ℕ, suc, zero, ◌+◌, ◌<◌, ◌≤◌, ◌⊎◌, inl, inr, List, [], ◌∷◌, ◌++◌, length, get_or, take, drop, map, refl, ap, ap₂, sym, ◌∙◌, arith, Option, Some, None, length-append}
+use Rattle.std.proofs.Common.{◌≡◌, ℕ, suc, zero, ◌<◌, ◌≤◌, inl, inr, List, [], ◌∷◌, length, get_or, take, drop, map, refl, ap, ap₂, ◌∙◌, arith, Some, length-append}
 use Rattle.std.specs.List.{slice_get, insert, remove}
 use Rattle.std.proofs.lemmas.List.{map-append, take-map, drop-map, take-append-drop}
 use Rattle.slot_heap.specs.declared.slot.Slot.{Slot}
-use Rattle.slot_heap.specs.Walk.{walk, IsWalk, Has}
+use Rattle.slot_heap.specs.Walk.{IsWalk, Has}
 use Rattle.slot_heap.specs.Chains.{step_of, chain}
 use Rattle.slot_heap.proofs.Walks.{length-walk, walk_is}
 

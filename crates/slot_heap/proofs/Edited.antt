@@ -1,5 +1,5 @@
 -- A slot is left out of its chain, or gets another cell, where things and homes stay.
-use Rattle.std.proofs.Common.{◌≡◌, ℕ, suc, zero, ◌+◌, ◌-◌, ◌<◌, ◌≤◌, ◌≢◌, ◌⊎◌, inl, inr, Bool, true, false, cond, List, [], ◌∷◌, ◌++◌, length, get_or, set, map, refl, ap, ap₂, sym, ◌∙◌, arith, Option, Some, None}
+use Rattle.std.proofs.Common.{◌≡◌, ℕ, suc, zero, ◌≢◌, inl, inr, Bool, true, false, cond, List, [], ◌∷◌, length, get_or, set, map, refl, ap, ap₂, sym, ◌∙◌, arith, Some, None}
 use Rattle.std.specs.List.{slice_get, remove}
 use Rattle.std.specs.Prelude.{IsTrue}
 use Rattle.std.proofs.lemmas.Bool.{cases_eq}

@@ -1,11 +1,11 @@
 -- Texts and names stay when more are added behind.
-use Rattle.std.proofs.Common.{◌≡◌, ℕ, zero, suc, ◌-◌, ◌+◌, ◌<◌, ◌≤◌, ◌⊎◌, inl, inr, Bool, true, false, List, [], ◌∷◌, ◌++◌, length, take, drop, map, get_or, refl, ap, ap₂, sym, ◌∙◌, arith, length-drop, length-append, Some}
+use Rattle.std.proofs.Common.{◌≡◌, ℕ, zero, suc, ◌-◌, ◌+◌, ◌<◌, ◌≤◌, ◌⊎◌, inl, inr, Bool, true, false, List, [], ◌∷◌, ◌++◌, length, take, drop, get_or, refl, ap, sym, ◌∙◌, arith, length-drop, length-append, Some}
 use Rattle.std.specs.List.{All, slice_get}
 use Rattle.std.proofs.lemmas.Bool.{cases_lt}
 use Rattle.std.proofs.lemmas.Option.{slice_get-get_or}
 use Rattle.std.proofs.lemmas.List.{append_assoc, get_or-drop, length-take, take-append-le, drop-append-le, take_all, get_or_append_left, get_or_push}
-use Rattle.std.proofs.lemmas.List.Elements.{All-head, All-tail, All-get_or, All-weaker, All-push, All-nil}
-use Rattle.slot_heap.specs.Texts.{Words, words, word_of, text_of, NoName, TextsKept, Within, opened, span_of, text_in}
+use Rattle.std.proofs.lemmas.List.Elements.{All-get_or, All-weaker, All-push, All-nil}
+use Rattle.slot_heap.specs.Texts.{Words, words, word_of, text_of, NoName, TextsKept, Within, span_of, text_in}
 use Rattle.slot_heap.specs.declared.slot.Value.{Value}
 
 pub text_grown : (units more : List ℕ) (p : ℕ × ℕ) → Within units p → text_of (units ++ more) p ≡ text_of units p
@@ -63,7 +63,7 @@ kept_closed units names open' start end ru rn uc nc k e = record {
   closed = λ f. e;
   unit_room = k.unit_room;
   name_room = k.name_room;
-      few_names = k.few_names;
+  few_names = k.few_names;
 }
 
 -- a unit more

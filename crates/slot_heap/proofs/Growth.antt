@@ -1,24 +1,23 @@
 -- What is read stays when units, names and things are added behind.
-use Rattle.std.proofs.Common.{◌≡◌, ℕ, suc, zero, ◌<◌, Bool, true, false, cond, List, [], ◌∷◌, ◌++◌, length, map, get_or, refl, ap, ap₂, sym, ◌∙◌, arith, Option, Some, None, length-append}
+use Rattle.std.proofs.Common.{◌≡◌, ℕ, suc, zero, ◌<◌, Bool, true, false, cond, List, [], ◌∷◌, length, get_or, refl, ap, ap₂, ◌∙◌, Some, None}
 use Rattle.std.specs.List.{All}
-use Rattle.std.specs.Prelude.{IsTrue, ◌==◌}
-use Rattle.std.proofs.lemmas.List.{get_or_append_left, append-nil, map-append}
-use Rattle.std.proofs.lemmas.List.Elements.{All-head, All-tail, All-get_or, All-nil, All-cons}
+use Rattle.std.specs.Prelude.{◌==◌}
+use Rattle.std.proofs.lemmas.List.{get_or_append_left}
+use Rattle.std.proofs.lemmas.List.Elements.{All-head, All-tail, All-get_or, All-cons}
 use Rattle.slot_heap.specs.declared.slot.Slot.{Slot}
 use Rattle.slot_heap.specs.declared.slot.Value.{Value as Low_Value}
 use Rattle.slot_heap.specs.declared.slot.Value.TheVariants as low
 use Rattle.slot_heap.specs.Slot.{blank, is_object_kind, value_in}
-use Rattle.slot_heap.specs.Shown.{is_thing, cells, shown}
 use Rattle.slot_heap.specs.Texts.{text_of, Within}
 use Rattle.slot_heap.specs.Held.{Held}
-use Rattle.slot_heap.specs.Reading.{Reading, place_in, number_in, word_in, object_or, value_of, bit, upper, lower, is_data, is_accessor, is_indexed, content_in, property_in, put_if, named_in, indexed_in, or_zero, number_by, captured_in, parts_in, reaction_in, reactions_in, state_in, built_in, code_in, length_in, class_by, class_in, object_record, initialised, thing_of}
-use Rattle.slot_heap.specs.Flat.{heads_of, reading, number_of, flat, Grows}
-use Rattle.slot_heap.specs.Standing.{RefStands, ValueStands, has_name, has_last, CellStands, Standing, Stays}
+use Rattle.slot_heap.specs.Reading.{Reading, place_in, number_in, word_in, object_or, value_of, bit, upper, lower, is_accessor, is_indexed, property_in, put_if, named_in, indexed_in, or_zero, number_by, captured_in, parts_in, reaction_in, reactions_in, class_by, class_in, object_record, thing_of}
+use Rattle.slot_heap.specs.Flat.{reading, Grows}
+use Rattle.slot_heap.specs.Standing.{RefStands, ValueStands, has_name, CellStands}
 use Rattle.slot_heap.proofs.Grown.{text_grown}
 use Rattle.slot_heap.proofs.Ranks.{place_append}
 use Rattle.slot_heap.proofs.Flat.{has_head}
-use Rattle.js_value.specs.Value.{Value, Undefined, Null, Object, String}
-use Rattle.js_value.specs.Store.{Content, Data, Accessor, Property, PromiseState, Fulfilled, Rejected, Pending, Reaction, Class, Promise, ScriptFunction, Ordinary, Error, ObjectRecord, Thing, AnObject, ACell, AMark, CellRecord}
+use Rattle.js_value.specs.Value.{Undefined, Null, String}
+use Rattle.js_value.specs.Store.{Content, Data, Accessor, Property, Thing, AnObject, ACell, AMark}
 
 module _ (h : Held) (r' : Reading) (g : Grows (reading h) r') (named : All (Within h.words.units) h.words.names) where
   abbrev r : Reading

@@ -14,3 +14,5 @@ pub mod Flat
 pub mod Growth
 pub mod Things
 pub mod Stands
+mod Rows
+pub mod Values

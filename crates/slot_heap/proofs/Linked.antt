@@ -1,13 +1,13 @@
 -- How chains change with the slots, where things and homes stay.
-use Rattle.std.proofs.Common.{◌≡◌, ℕ, suc, zero, ◌+◌, ◌<◌, ◌≤◌, ◌≢◌, ◌⊎◌, inl, inr, Bool, true, false, cond, List, [], ◌∷◌, ◌++◌, length, get_or, map, refl, ap, ap₂, sym, ◌∙◌, arith, Option, Some, None}
+use Rattle.std.proofs.Common.{◌≡◌, ℕ, suc, ◌<◌, ◌≢◌, ◌⊎◌, inl, inr, Bool, true, false, cond, List, length, get_or, map, refl, ap, sym, ◌∙◌, arith, Some, None}
 use Rattle.std.specs.List.{slice_get, insert}
 use Rattle.std.specs.Prelude.{IsTrue}
-use Rattle.std.proofs.lemmas.Bool.{cases_eq, cases_lt}
+use Rattle.std.proofs.lemmas.Bool.{cases_eq}
 use Rattle.std.proofs.lemmas.List.{append-nil}
 use Rattle.slot_heap.specs.declared.slot.Slot.{Slot}
 use Rattle.slot_heap.specs.Slot.{blank}
-use Rattle.slot_heap.specs.Walk.{walk, IsWalk, Has}
-use Rattle.slot_heap.specs.Chains.{step_of, chain, cell, entry, table, update}
+use Rattle.slot_heap.specs.Walk.{IsWalk, Has}
+use Rattle.slot_heap.specs.Chains.{step_of, chain, cell, update}
 use Rattle.slot_heap.proofs.Walks.{walk_frame, has_get, walk_insert, has_insert, walk_below}
 use Rattle.slot_heap.proofs.Tables.{table_same, table_update}
 use Rattle.slot_heap.proofs.Chains.{map_has, map_insert, length_insert_any, length_chain, chain_is}

@@ -1,21 +1,20 @@
 -- The heap after a thing is made.
-use Rattle.std.proofs.Common.{◌≡◌, ℕ, suc, zero, ◌+◌, ◌-◌, ◌<◌, ◌≤◌, ◌≢◌, ◌⊎◌, inl, inr, Bool, true, false, cond, List, [], ◌∷◌, ◌++◌, length, get_or, replicate, map, refl, ap, ap₂, sym, ◌∙◌, arith, Option, Some, None}
+use Rattle.std.proofs.Common.{◌≡◌, ℕ, suc, zero, ◌+◌, ◌≢◌, inl, inr, true, List, [], ◌∷◌, ◌++◌, length, replicate, map, refl, ap, ap₂, sym, ◌∙◌, arith, Some}
 use Rattle.std.specs.List.{slice_get, insert}
-use Rattle.std.specs.Prelude.{IsTrue, ◌==◌}
-use Rattle.std.proofs.lemmas.Bool.{cases_eq, cases_lt, eq-eqb}
+use Rattle.std.specs.Prelude.{IsTrue}
+use Rattle.std.proofs.lemmas.Bool.{cases_lt, eq-eqb}
 use Rattle.std.proofs.lemmas.List.{map-append, get_or_past, get_or_push, get_or_append_left, length_push, length-replicate}
 use Rattle.std.proofs.lemmas.List.Edits.{length-insert}
 use Rattle.slot_heap.specs.declared.slot.Slot.{Slot}
 use Rattle.slot_heap.specs.declared.slot.Kind.{Kind}
 use Rattle.slot_heap.specs.declared.slot.Kind.TheVariants.{Object, Array, Script, Builtin, Error, Promise, Cell, Mark}
 use Rattle.slot_heap.specs.Slot.{blank, byte_of, head_slot, is_head_kind}
-use Rattle.slot_heap.specs.Chains.{step_of, chain, cell, head_at, update, table, thing_in, shown_in, Chained, cells_at}
+use Rattle.slot_heap.specs.Chains.{step_of, cell, head_at, update, thing_in, shown_in}
 use Rattle.slot_heap.specs.Shown.{Low, low, all, next_address, thing, home, is_thing, places, cells, shown, Owned, Stands}
 use Rattle.slot_heap.specs.Steps.{Added, Made, new_cells}
 use Rattle.slot_heap.specs.Writes.{with_ram}
 use Rattle.slot_heap.proofs.Tables.{update_past}
-use Rattle.slot_heap.proofs.Linked.{chain_below}
-use Rattle.slot_heap.proofs.Begun.{Begins, len, chain_new, chain_old, cells_new, cells_old, shown_begun, chained_begun}
+use Rattle.slot_heap.proofs.Begun.{Begins, chain_new, chain_old, cells_new, cells_old, shown_begun, chained_begun}
 use Rattle.slot_heap.proofs.Written.{Sound}
 
 -- no slots

@@ -1,20 +1,20 @@
 -- The heap after a slot is put in the place of another, or left out.
-use Rattle.std.proofs.Common.{◌≡◌, ℕ, suc, zero, ◌+◌, ◌-◌, ◌<◌, ◌≤◌, ◌≢◌, ◌⊎◌, inl, inr, Bool, true, false, cond, List, [], ◌∷◌, ◌++◌, length, get_or, set, map, refl, ap, ap₂, sym, ◌∙◌, arith, Option, Some, None, length-set}
-use Rattle.std.specs.List.{slice_get, remove}
+use Rattle.std.proofs.Common.{◌≡◌, ℕ, suc, zero, ◌-◌, ◌<◌, ◌≤◌, ◌≢◌, inl, inr, List, [], ◌∷◌, ◌++◌, length, get_or, set, map, refl, ap, sym, ◌∙◌, arith, Some, length-set}
+use Rattle.std.specs.List.{slice_get}
 use Rattle.std.specs.Prelude.{IsTrue}
 use Rattle.std.proofs.lemmas.Bool.{cases_eq}
-use Rattle.std.proofs.lemmas.List.{get_or_past, get_or-set_same, get_or-set_other, get_or_default, get_or_append_left, length_push}
+use Rattle.std.proofs.lemmas.List.{get_or-set_same, get_or-set_other, get_or_default, get_or_append_left, length_push}
 use Rattle.slot_heap.specs.declared.slot.Slot.{Slot}
-use Rattle.slot_heap.specs.Slot.{blank, is_head_kind, is_object_kind, stored}
-use Rattle.slot_heap.specs.Chains.{step_of, chain, cell, head_at, address, update, Chained, cells_at}
-use Rattle.slot_heap.specs.Shown.{Low, all, thing, home, is_thing, places, cells, shown, Owned, Stands}
-use Rattle.slot_heap.specs.Steps.{OthersStay, Replaced, Removed}
+use Rattle.slot_heap.specs.Slot.{blank, is_head_kind, stored}
+use Rattle.slot_heap.specs.Chains.{step_of, chain, cell, head_at, address, update}
+use Rattle.slot_heap.specs.Shown.{Low, all, thing, home, is_thing, places, cells, shown, Stands}
+use Rattle.slot_heap.specs.Steps.{Replaced, Removed}
 use Rattle.slot_heap.specs.Writes.{with_ram, put_behind, put_over, put_past}
 use Rattle.slot_heap.proofs.Walks.{has_get}
 use Rattle.slot_heap.proofs.Chains.{map_remove, place_of, slice_get_within, get_or_some}
 use Rattle.slot_heap.proofs.Linked.{chain_below, chained_same, shown_same}
 use Rattle.slot_heap.proofs.Edited.{Cuts, Puts, chain_cut, chain_cut_other, chained_cut, cells_cut, cells_cut_other, shown_cut, chain_put, chained_put, cells_put, cells_put_other, shown_put}
-use Rattle.slot_heap.proofs.Written.{Sound, At, stands_at}
+use Rattle.slot_heap.proofs.Written.{Sound, stands_at}
 
 -- ---- put
 

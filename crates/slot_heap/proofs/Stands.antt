@@ -1,27 +1,24 @@
 -- All that is spoken of goes on standing.
-use Rattle.std.proofs.Common.{◌≡◌, ◌≢◌, ℕ, suc, zero, ◌+◌, ◌*◌, ◌/◌, ◌%◌, ◌<◌, ◌≤◌, ◌⊎◌, inl, inr, Bool, true, false, cond, List, [], ◌∷◌, ◌++◌, length, replicate, map, set, get_or, refl, ap, ap₂, sym, ◌∙◌, subst, arith, Option, Some, None, length-append}
-use Rattle.std.specs.List.{All, slice_get, insert, remove}
+use Rattle.std.proofs.Common.{◌≡◌, ◌≢◌, ℕ, suc, zero, ◌+◌, ◌*◌, ◌/◌, ◌%◌, ◌<◌, inl, inr, Bool, true, false, cond, List, [], ◌∷◌, ◌++◌, length, get_or, refl, ap, sym, ◌∙◌, subst, arith, length-append}
+use Rattle.std.specs.List.{All}
 use Rattle.std.specs.Prelude.{IsTrue, ◌==◌, ◌&&◌}
 use Rattle.std.proofs.lemmas.Bool.{cases_eq, eqb-true}
 use Rattle.std.proofs.lemmas.List.{append-nil}
-use Rattle.std.proofs.lemmas.List.Elements.{All-head, All-tail, All-nil, All-cons, All-append, All-take, All-drop, All-set, All-weaker, All-push}
+use Rattle.std.proofs.lemmas.List.Elements.{All-tail, All-cons, All-append, All-take, All-drop, All-set, All-weaker, All-push}
 use Rattle.slot_heap.specs.declared.slot.Slot.{Slot}
 use Rattle.slot_heap.specs.declared.slot.Job.{Job}
-use Rattle.slot_heap.specs.declared.slot.Kind.{Kind}
-use Rattle.slot_heap.specs.declared.slot.Kind.TheVariants.{Object, Array, Script, Builtin, Error, Promise, Cell, Mark}
 use Rattle.slot_heap.specs.declared.slot.Value.{Value}
 use Rattle.slot_heap.specs.declared.slot.Value.TheVariants.{Undefined, Null, Bool as OfBool, Number, Name, Text, Thing}
-use Rattle.slot_heap.specs.Slot.{blank, byte_of, four_bytes, tag_of, value_by, value_in, is_object_kind, is_head_kind, head_slot, stored}
+use Rattle.slot_heap.specs.Slot.{blank, four_bytes, tag_of, value_by, value_in, is_object_kind, is_head_kind, stored}
 use Rattle.slot_heap.specs.Chains.{cell}
 use Rattle.slot_heap.specs.Shown.{is_thing, cells}
-use Rattle.slot_heap.specs.Steps.{Added, Replaced, Removed, Made, new_cells, OthersStay}
+use Rattle.slot_heap.specs.Steps.{Added, Replaced, Removed, Made, OthersStay}
 use Rattle.slot_heap.specs.Texts.{Within}
 use Rattle.slot_heap.specs.Held.{Held}
-use Rattle.slot_heap.specs.Reading.{upper, lower, is_accessor, is_data}
-use Rattle.slot_heap.specs.Standing.{RefStands, ValueStands, has_name, has_last, CellStands, Standing, Stays}
+use Rattle.slot_heap.specs.Reading.{upper, lower, is_accessor}
+use Rattle.slot_heap.specs.Standing.{RefStands, ValueStands, has_last, CellStands, Standing, Stays}
 use Rattle.slot_heap.proofs.Flat.{SameWords}
 use Rattle.slot_heap.proofs.Grown.{within_grown}
-use Rattle.slot_heap.proofs.Growth.{blank_stands}
 
 -- ---- under growth
 

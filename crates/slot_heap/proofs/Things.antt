@@ -1,5 +1,5 @@
 -- The store of a heap when words grow, or a thing is made.
-use Rattle.std.proofs.Common.{◌≡◌, ◌≢◌, ℕ, suc, zero, ◌+◌, ◌<◌, ◌≤◌, inl, inr, Bool, true, false, cond, List, [], ◌∷◌, ◌++◌, length, map, refl, ap, ap₂, sym, ◌∙◌, arith, Option, Some, None}
+use Rattle.std.proofs.Common.{◌≡◌, ℕ, suc, zero, Bool, true, false, cond, List, [], ◌∷◌, ◌++◌, length, map, refl, ap, ap₂, sym, ◌∙◌, Option, Some, None}
 use Rattle.std.specs.List.{All}
 use Rattle.std.specs.Prelude.{IsTrue}
 use Rattle.std.proofs.lemmas.List.{map-append, length-map, append-nil}
@@ -7,15 +7,15 @@ use Rattle.std.proofs.lemmas.List.Elements.{All-head, All-tail, All-nil, All-con
 use Rattle.slot_heap.specs.declared.slot.Slot.{Slot}
 use Rattle.slot_heap.specs.Walk.{Has}
 use Rattle.slot_heap.specs.Chains.{entry, table, thing_in, shown_in, cells_at}
-use Rattle.slot_heap.specs.Shown.{Low, all, next_address, thing, home, is_thing, cells, shown}
+use Rattle.slot_heap.specs.Shown.{all, thing, home, is_thing, cells, shown}
 use Rattle.slot_heap.specs.Steps.{Made}
 use Rattle.slot_heap.specs.Texts.{Within}
 use Rattle.slot_heap.specs.Held.{Held}
 use Rattle.slot_heap.specs.Reading.{Reading, place_in, thing_of}
 use Rattle.slot_heap.specs.Flat.{heads_of, reading, number_of, flat, Grows}
 use Rattle.slot_heap.specs.Standing.{CellStands, Standing}
-use Rattle.slot_heap.proofs.Ranks.{keys, place_new, place_append}
-use Rattle.slot_heap.proofs.Flat.{has_head, SameWords, heads_are}
+use Rattle.slot_heap.proofs.Ranks.{place_new, place_append}
+use Rattle.slot_heap.proofs.Flat.{has_head, SameWords}
 use Rattle.slot_heap.proofs.Growth.{thing_grows}
 
 table_all : {X : Type 0} (P : X → Type 0) (f : ℕ → Option X) (n : ℕ) → ((i : ℕ) (x : X) → f i ≡ Some x → P x) → All (λ p. P p.1) (table f n)

@@ -1,5 +1,5 @@
 -- Walks that end, and how they change with the step.
-use Rattle.std.proofs.Common.{◌≡◌, ℕ, suc, zero, ◌+◌, ◌<◌, ◌≤◌, ◌≢◌, ◌⊎◌, inl, inr, List, [], ◌∷◌, ◌++◌, length, take, drop, refl, ap, sym, ◌∙◌, subst, arith, Option, Some, None, map}
+use Rattle.std.proofs.Common.{◌≡◌, ℕ, suc, zero, ◌<◌, ◌≤◌, ◌≢◌, ◌⊎◌, inl, inr, List, [], ◌∷◌, length, refl, ap, sym, ◌∙◌, subst, arith, Some, map}
 use Rattle.std.specs.List.{slice_get, insert, remove}
 use Rattle.slot_heap.specs.Walk.{walk, IsWalk, Has}
 use Rattle.slot_heap.specs.Chains.{address}

@@ -1,21 +1,20 @@
 -- The three writes, and the heap after each.
-use Rattle.std.proofs.Common.{◌≡◌, ℕ, suc, zero, ◌+◌, ◌-◌, ◌<◌, ◌≤◌, ◌^◌, ◌≢◌, ◌⊎◌, inl, inr, Bool, true, false, cond, List, [], ◌∷◌, ◌++◌, length, get_or, set, map, refl, ap, ap₂, sym, ◌∙◌, arith, Option, Some, None, length-set}
-use Rattle.std.specs.List.{slice_get, insert, remove}
+use Rattle.std.proofs.Common.{◌≡◌, ℕ, suc, zero, ◌+◌, ◌-◌, ◌<◌, ◌≤◌, ◌≢◌, inl, inr, false, List, [], ◌∷◌, length, get_or, map, refl, ap, sym, ◌∙◌, arith, Some, length-set}
+use Rattle.std.specs.List.{slice_get, insert}
 use Rattle.std.specs.Prelude.{IsTrue, option_map}
 use Rattle.std.proofs.lemmas.Bool.{cases_eq, cases_lt}
 use Rattle.std.proofs.lemmas.List.{get_or_past, get_or_push, get_or_append_left, get_or-set_same, get_or-set_other, get_or_default, length_push}
 use Rattle.std.proofs.lemmas.Option.{slice_get-map}
 use Rattle.slot_heap.specs.declared.slot.Slot.{Slot}
-use Rattle.slot_heap.specs.Slot.{blank, is_head_kind, stored}
+use Rattle.slot_heap.specs.Slot.{blank, is_head_kind}
 use Rattle.slot_heap.specs.Chains.{step_of, chain, cell, head_at, address, Chained, cells_at}
-use Rattle.slot_heap.specs.Shown.{Low, low, all, next_address, thing, home, is_thing, places, cells, shown, Owned, Stands, left, Kept}
-use Rattle.slot_heap.specs.Steps.{OthersStay, Added, Replaced, Removed}
+use Rattle.slot_heap.specs.Shown.{Low, low, all, thing, home, is_thing, places, cells, shown, Stands, left, Kept}
+use Rattle.slot_heap.specs.Steps.{Added}
 use Rattle.slot_heap.specs.Walk.{IsWalk}
-use Rattle.slot_heap.specs.Writes.{with_ram, put_behind, put_over, put_past}
+use Rattle.slot_heap.specs.Writes.{with_ram, put_behind}
 use Rattle.slot_heap.proofs.Walks.{has_get, walk_next, walk_rest}
-use Rattle.slot_heap.proofs.Chains.{map_insert, map_remove, length_chain, chain_is, place_of, slice_get_within, get_or_some}
+use Rattle.slot_heap.proofs.Chains.{map_insert, length_chain, chain_is, place_of}
 use Rattle.slot_heap.proofs.Linked.{Links, chain_below, chained_same, shown_same, chain_linked, chain_other, chained_linked, cells_linked, cells_other, shown_linked}
-use Rattle.slot_heap.proofs.Edited.{Cuts, Puts, chain_cut, chain_cut_other, chained_cut, cells_cut, cells_cut_other, shown_cut, chain_put, chained_put, cells_put, cells_put_other, shown_put}
 
 abbrev pub Sound : Low → Type 0
 Sound h = Chained (thing h) (home h) (all h)

@@ -1,5 +1,5 @@
 -- What a heap holds, and its counts.
-use Rattle.std.specs.Prelude.{◌≡◌, ◌⊎◌, ◌==◌, ℕ, ◌+◌, ◌-◌, ◌*◌, ◌/◌, ◌≤◌, ◌<◌, ◌^◌, Bool, false, cond, nat_lt, List, [], ◌∷◌, ◌++◌, length, Option, Some, None}
+use Rattle.std.specs.Prelude.{◌≡◌, ◌⊎◌, ◌==◌, ℕ, ◌+◌, ◌-◌, ◌*◌, ◌/◌, ◌≤◌, ◌<◌, ◌^◌, false, cond, nat_lt, List, [], ◌∷◌, ◌++◌, length, Option, Some, None}
 use Prim.Native.Nat.{zero, suc}
 use Rattle.slot_heap.specs.declared.slot.Slot.{Slot}
 use Rattle.slot_heap.specs.declared.slot.Room.{Room}

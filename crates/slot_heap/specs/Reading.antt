@@ -1,13 +1,12 @@
 -- What cells and values say in the words of the store: a thing's address is read as its number, which is its place in the
 -- order of creation, and names and texts as their units.
-use Rattle.std.specs.Prelude.{◌≡◌, ℕ, ◌+◌, ◌*◌, ◌/◌, ◌%◌, ◌<◌, ◌==◌, ◌⊎◌, Bool, true, false, cond, IsTrue, List, [], ◌∷◌, ◌++◌, map, length, get_or, Option, Some, None}
+use Rattle.std.specs.Prelude.{ℕ, ◌/◌, ◌%◌, ◌==◌, Bool, true, cond, List, [], ◌∷◌, get_or, Option, Some, None}
 use Prim.Native.Nat.{zero, suc}
-use Rattle.std.specs.List.{All}
 use Rattle.slot_heap.specs.declared.slot.Slot.{Slot}
 use Rattle.slot_heap.specs.declared.slot.Value.{Value as Low_Value}
 use Rattle.slot_heap.specs.declared.slot.Value.TheVariants as low
-use Rattle.slot_heap.specs.Slot.{blank, four_bytes, tag_of, is_head_kind, is_object_kind, value_in}
-use Rattle.slot_heap.specs.Texts.{text_of, Within}
+use Rattle.slot_heap.specs.Slot.{blank, four_bytes, is_object_kind, value_in}
+use Rattle.slot_heap.specs.Texts.{text_of}
 use Rattle.js_value.specs.Value.{Value, Undefined, Null, Boolean, Number, String, Object}
 use Rattle.js_value.specs.Store.{Content, Data, Accessor, Property, PromiseState, Pending, Fulfilled, Rejected, Reaction, Class, Ordinary, Array, ScriptFunction, BuiltInFunction, ResolveFunction, RejectFunction, Error, Promise, ObjectRecord, Thing, AnObject, ACell, AMark}
 

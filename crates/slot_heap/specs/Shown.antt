@@ -1,8 +1,7 @@
 -- What the slots of a heap show: the things, by their addresses. A heap without a ROM has each thing where it was made.
-use Rattle.std.specs.Prelude.{◌≡◌, ℕ, ◌+◌, ◌≤◌, ◌<◌, ◌^◌, Bool, true, false, IsTrue, List, [], ◌∷◌, map, length, get_or, slice_get, Option, Some, None}
+use Rattle.std.specs.Prelude.{◌≡◌, ℕ, ◌+◌, ◌≤◌, ◌<◌, ◌^◌, Bool, false, IsTrue, List, [], map, length, slice_get, Some}
 use Prim.Native.Nat.{zero, suc}
 use Rattle.slot_heap.specs.declared.slot.Slot.{Slot}
-use Rattle.slot_heap.specs.Slot.{blank, is_head_kind}
 use Rattle.slot_heap.specs.Chains.{chain, cells_at, head_at, shown_in, Chained}
 
 -- the slots, and how many there is room for

@@ -1,5 +1,5 @@
 -- What each change of the slots does to what they show.
-use Rattle.std.specs.Prelude.{◌≡◌, ◌≢◌, ℕ, ◌+◌, IsTrue, List, [], ◌∷◌, ◌++◌, length, replicate, set, get_or, slice_get, Some}
+use Rattle.std.specs.Prelude.{◌≡◌, ◌≢◌, ℕ, ◌+◌, IsTrue, List, [], ◌∷◌, ◌++◌, length, replicate, set, get_or}
 use Prim.Native.Nat.{suc}
 use Rattle.std.specs.List.{insert, remove}
 use Rattle.slot_heap.specs.declared.slot.Slot.{Slot}

@@ -1,5 +1,5 @@
 -- Texts in one list of units that only grows, and names, which are some of them.
-use Rattle.std.specs.Prelude.{◌≡◌, ◌≢◌, ℕ, ◌+◌, ◌≤◌, ◌<◌, ◌^◌, Bool, true, false, IsTrue, List, [], map, take, drop, length, get_or}
+use Rattle.std.specs.Prelude.{◌≡◌, ◌≢◌, ℕ, ◌+◌, ◌≤◌, ◌<◌, ◌^◌, Bool, false, List, take, drop, length, get_or}
 use Rattle.std.specs.List.{All}
 use Rattle.slot_heap.specs.declared.slot.Value.{Value}
 use Rattle.slot_heap.specs.declared.slot.Value.TheVariants.{Name, Text}

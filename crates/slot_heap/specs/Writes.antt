@@ -1,5 +1,5 @@
 -- What the three writes of a slot do to the list of slots.
-use Rattle.std.specs.Prelude.{ℕ, ◌+◌, ◌-◌, List, [], ◌∷◌, ◌++◌, set, get_or}
+use Rattle.std.specs.Prelude.{ℕ, ◌-◌, List, [], ◌∷◌, ◌++◌, set, get_or}
 use Rattle.slot_heap.specs.declared.slot.Slot.{Slot}
 use Rattle.slot_heap.specs.Slot.{blank, stored}
 use Rattle.slot_heap.specs.Shown.{Low}

@@ -99,19 +99,32 @@ fn names_are_one_each(rt: HostRuntime) -> Result<(), AllocError> {
 fn first_in_first_out(rt: HostRuntime) -> Result<(), AllocError> {
     let mut heap = Heap::start(Rom::none(), Reserve::of(rt.alloc(), AMPLE, 0, 0)?);
     for kind in 0..2u8 {
-        let queued = heap.queue(Job { kind, values: UNDEFINED });
+        let queued = heap.queue(Job {
+            kind,
+            values: UNDEFINED,
+        });
         assert!(rt; queued.is_ok());
     }
     assert!(rt; heap.jobs() == 2);
     let first = heap.next_job();
-    assert!(rt; first == Some(Job { kind: 0, values: UNDEFINED }));
+    assert!(rt;
+        first
+            == Some(Job {
+                kind: 0,
+                values: UNDEFINED
+            })
+    );
     assert!(rt; heap.used().slots == 8);
     assert!(rt; heap.job(0).kind == 1);
     let second = heap.next_job();
     assert!(rt; second.is_some());
     if heap.next_job().is_none() {
         assert!(rt; heap.fits(AMPLE) == Err(Full::Slots));
-        heap.restart(Room { slots: 64, units: 1, names: 0 });
+        heap.restart(Room {
+            slots: 64,
+            units: 1,
+            names: 0,
+        });
         assert!(rt; heap.used().slots == 0);
     }
     Ok(())

@@ -1,4 +1,4 @@
-use Rattle.std.proofs.Common.{arith, length, ◌-◌, ◌<◌}
+use Rattle.std.proofs.Common.{arith, length, ◌<◌}
 use Rattle.slot_heap.proofs.Rewritten.{put_past_is, next_is}
 use Rattle.slot_heap.proofs.slots.cut_slot.Goals as goal
 

@@ -1,6 +1,5 @@
-use Rattle.std.proofs.Common.{ap, arith, length, ◌≡◌}
+use Rattle.std.proofs.Common.{ap, arith}
 use Rattle.slot_heap.specs.Held.{Held}
-use Rattle.slot_heap.specs.Texts.{text_in}
 use Rattle.slot_heap.proofs.Grown.{span_length}
 use Rattle.slot_heap.proofs.heap.Heap.push_text.Goals as goal
 

@@ -1,10 +1,6 @@
-use Rattle.std.proofs.Common.{ap, sym, refl, ◌∙◌, subst, arith, length, ◌≡◌, ◌≤◌, ◌<◌, ◌+◌, ◌-◌, ◌++◌, ◌∷◌, [], ℕ}
-use Rattle.slot_heap.specs.Shown.{Low, low, all}
-use Rattle.slot_heap.specs.Steps.{Added, Replaced, Removed}
-use Rattle.slot_heap.specs.Writes.{with_ram, put_behind, put_over, put_past}
-use Rattle.slot_heap.proofs.Written.{Sound, stands_at, added, written, kept_after}
-use Rattle.slot_heap.specs.Shown.{Stands, places}
-use Rattle.slot_heap.specs.Steps.{Made, new_cells}
+use Rattle.std.proofs.Common.{ap, refl, arith, length, ◌+◌, ◌++◌, ◌∷◌, []}
+use Rattle.slot_heap.specs.Shown.{Low}
+use Rattle.slot_heap.proofs.Written.{written, kept_after}
 use Rattle.slot_heap.proofs.Makes.{begun_head}
 use Rattle.slot_heap.proofs.slots.Slots.begin.Goals as goal
 

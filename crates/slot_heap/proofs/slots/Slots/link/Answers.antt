@@ -1,7 +1,7 @@
-use Rattle.std.proofs.Common.{ap, sym, refl, ◌∙◌, subst, arith, length, ◌≡◌, ◌≤◌, ◌<◌, ◌+◌, ◌-◌, ◌++◌, ◌∷◌, [], ℕ}
-use Rattle.slot_heap.specs.Shown.{Low, low, all}
-use Rattle.slot_heap.specs.Steps.{Added, Replaced, Removed}
-use Rattle.slot_heap.specs.Writes.{with_ram, put_behind, put_over, put_past}
+use Rattle.std.proofs.Common.{ap, sym, refl, ◌∙◌, subst, arith, length, ◌≡◌, ◌+◌, ◌-◌}
+use Rattle.slot_heap.specs.Shown.{Low}
+use Rattle.slot_heap.specs.Steps.{Added}
+use Rattle.slot_heap.specs.Writes.{put_behind}
 use Rattle.slot_heap.proofs.Written.{Sound, stands_at, added, written, kept_after}
 use Rattle.slot_heap.proofs.slots.Slots.link.Goals as goal
 

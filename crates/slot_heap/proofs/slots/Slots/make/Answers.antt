@@ -1,8 +1,6 @@
-use Rattle.std.proofs.Common.{refl, arith, ap, ◌∙◌, ◌≡◌, ◌+◌, length, replicate}
-use Rattle.std.proofs.lemmas.List.{length-replicate}
-use Rattle.slot_heap.specs.Slot.{blank}
+use Rattle.std.proofs.Common.{◌∙◌}
 use Rattle.slot_heap.specs.Shown.{Stands}
-use Rattle.slot_heap.proofs.Makes.{Filling, filling_none, filling_more}
+use Rattle.slot_heap.proofs.Makes.{filling_more}
 use Rattle.slot_heap.proofs.slots.Slots.make.Goals as goal
 
 pub loop-i-preserved : goal.loop-i-preserved

@@ -1,4 +1,4 @@
-use Rattle.std.proofs.Common.{◌≡◌, ℕ, ◌+◌, ◌≤◌, length}
+use Rattle.std.proofs.Common.{◌≡◌, ◌+◌, ◌≤◌, length}
 use Rattle.slot_heap.proofs.Makes.{Filling}
 use Rattle.slot_heap.proofs.Written.{Sound}
 use Rattle.slot_heap.proofs.slots.Slots.make.Given as goal

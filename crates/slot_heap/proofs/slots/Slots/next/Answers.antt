@@ -1,7 +1,7 @@
-use Rattle.std.proofs.Common.{ap, sym, ◌∙◌, arith, length, ◌≤◌}
+use Rattle.std.proofs.Common.{ap, sym, ◌∙◌, arith}
 use Rattle.slot_heap.specs.declared.slot.Slot.{Slot}
 use Rattle.slot_heap.specs.Chains.{address}
-use Rattle.slot_heap.proofs.Written.{At, stands_at, address_of, within_next}
+use Rattle.slot_heap.proofs.Written.{stands_at, address_of, within_next}
 use Rattle.slot_heap.proofs.slots.Slots.next.Goals as goal
 
 pub slot-next-requires-clause-above : goal.slot-next-requires-clause-above

@@ -1,8 +1,8 @@
-use Rattle.std.proofs.Common.{ap, sym, refl, ◌∙◌, subst, arith, length, ◌≡◌, ◌≤◌, ◌<◌, ◌+◌, ◌-◌, ◌++◌, ◌∷◌, [], ℕ}
-use Rattle.slot_heap.specs.Shown.{Low, low, all}
-use Rattle.slot_heap.specs.Steps.{Added, Replaced, Removed}
-use Rattle.slot_heap.specs.Writes.{with_ram, put_behind, put_over, put_past}
-use Rattle.slot_heap.proofs.Written.{Sound, stands_at, added, written, kept_after}
+use Rattle.std.proofs.Common.{ap, sym, refl, subst, arith, length, ◌-◌}
+use Rattle.slot_heap.specs.Shown.{Low}
+use Rattle.slot_heap.specs.Steps.{Replaced}
+use Rattle.slot_heap.specs.Writes.{put_over}
+use Rattle.slot_heap.proofs.Written.{Sound, stands_at, written, kept_after}
 use Rattle.slot_heap.proofs.Rewritten.{replaced}
 use Rattle.slot_heap.proofs.slots.Slots.put.Goals as goal
 

@@ -1,6 +1,5 @@
 use Rattle.std.proofs.Common.{arith}
 use Rattle.slot_heap.specs.Shown.{Kept}
-use Rattle.slot_heap.proofs.Written.{Sound}
 use Rattle.slot_heap.proofs.Makes.{sound_none}
 use Rattle.slot_heap.proofs.slots.Slots.reserve.Goals as goal
 

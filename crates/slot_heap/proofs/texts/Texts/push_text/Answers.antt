@@ -1,4 +1,4 @@
-use Rattle.std.proofs.Common.{ap, sym, ◌∙◌, arith, length, length-append, ◌≡◌, ◌++◌, ◌∷◌, []}
+use Rattle.std.proofs.Common.{ap, sym, ◌∙◌, arith, length, length-append, ◌++◌, ◌∷◌, []}
 use Rattle.slot_heap.specs.Texts.{Words}
 use Rattle.slot_heap.proofs.Grown.{pushed_more}
 use Rattle.slot_heap.proofs.texts.Texts.push_text.Goals as goal

@@ -1,4 +1,4 @@
-use Rattle.std.proofs.Common.{◌≡◌, ℕ, ◌+◌, ◌-◌, ◌≤◌, ◌++◌, true, length, take, drop}
+use Rattle.std.proofs.Common.{◌≡◌, ◌+◌, ◌-◌, ◌≤◌, ◌++◌, true, length, take, drop}
 use Rattle.slot_heap.specs.Texts.{Words, text_of, Within}
 use Rattle.slot_heap.proofs.texts.Texts.push_text.Given as goal
 
