@@ -16,3 +16,4 @@ pub mod Things
 pub mod Stands
 mod Rows
 pub mod Values
+pub mod Uses

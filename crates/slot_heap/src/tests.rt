@@ -91,11 +91,17 @@ fn names_are_one_each(rt: HostRuntime) -> Result<(), AllocError> {
         assert!(rt; first == Ok(0));
         assert!(rt; heap.names() == 1);
         assert!(rt; heap.unit(text, 0) == 97);
+        if heap.open_text(1).is_ok() {
+            heap.push_text(text, 0, 1);
+            let copy = heap.close_text();
+            assert!(rt; heap.find_name(copy) == Some(0));
+        }
     }
     Ok(())
 }
 
 #[test]
+#[tactic(auto, using(crate::proofs::Uses::holds_spare))]
 fn first_in_first_out(rt: HostRuntime) -> Result<(), AllocError> {
     let mut heap = Heap::start(Rom::none(), Reserve::of(rt.alloc(), AMPLE, 0, 0)?);
     for kind in 0..2u8 {
@@ -120,11 +126,8 @@ fn first_in_first_out(rt: HostRuntime) -> Result<(), AllocError> {
     assert!(rt; second.is_some());
     if heap.next_job().is_none() {
         assert!(rt; heap.fits(AMPLE) == Err(Full::Slots));
-        heap.restart(Room {
-            slots: 64,
-            units: 1,
-            names: 0,
-        });
+        let spare = heap.spare();
+        heap.restart(spare);
         assert!(rt; heap.used().slots == 0);
     }
     Ok(())
@@ -136,5 +139,18 @@ fn places_of_the_realm(rt: HostRuntime) -> Result<(), AllocError> {
     assert!(rt; heap.realm(1) == Ref(2));
     assert!(rt; heap.realm(13) == Ref(16));
     assert!(rt; heap.realm(103) == Ref(195));
+    Ok(())
+}
+
+#[test]
+fn cut_in_a_chain(rt: HostRuntime) -> Result<(), AllocError> {
+    let mut heap = Heap::start(Rom::none(), Reserve::of(rt.alloc(), AMPLE, 0, 0)?);
+    if let Ok(array) = heap.instance(Kind::Array, Ref(0), 1) {
+        let head = heap.first(array);
+        if let Some(_second) = heap.next(head) {
+            heap.cut(array, head);
+            assert!(rt; heap.used().slots == 2);
+        }
+    }
     Ok(())
 }
