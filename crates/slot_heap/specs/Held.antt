@@ -105,3 +105,7 @@ realm_size n = cond (n == 1) 2 (cond (n == 12) 2 (cond (nat_lt 12 n) (cond (nat_
 abbrev pub realm_address : ℕ → ℕ
 realm_address zero = 1
 realm_address (suc n) = realm_address n + realm_size n
+
+-- the address of the realm's thing at a place
+abbrev pub realm_of : Held → ℕ → ℕ
+realm_of h at = realm_address at

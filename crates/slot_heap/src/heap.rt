@@ -8,7 +8,7 @@ ghost use Rattle.slot_heap.specs.Chains.{cell, Chained};
 ghost use Rattle.slot_heap.specs.Shown.{all, cells, copy_cost, home, is_thing, left, next_address, Owned, places, Stands, thing};
 ghost use Rattle.slot_heap.specs.Steps.{Added, Made, new_cells, Removed, Replaced};
 ghost use Rattle.slot_heap.specs.Texts.{IsText, NoName, opened, span_of, text_in, Within, word_of};
-ghost use Rattle.slot_heap.specs.Held.{Counted, full_of, Held, Holds, NamedAs, names_more, no_room, realm_address, slots_more, spare, started, units_more};
+ghost use Rattle.slot_heap.specs.Held.{Counted, full_of, Held, Holds, NamedAs, names_more, no_room, realm_of, slots_more, spare, started, units_more};
 
 use super::jobs::Jobs;
 use super::reserve::Reserve;
@@ -359,7 +359,7 @@ impl<'a> Heap<'a> {
     /// realm's, in order.
     pub fn realm(&self, at: u32) -> Ref
         requires { at < 104 }
-        ensures { result.0 ≡ realm_address at }
+        ensures { result.0 ≡ realm_of self.now at }
     {
         let _rom = &self.rom;
         Ref(match at {
