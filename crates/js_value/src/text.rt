@@ -11,6 +11,7 @@ ghost use Rattle.js_value.specs.Text.{units, utf16, scalar_value, sequence_lengt
 use std::alloc::{AllocError, Global};
 use std::marker::Model;
 pub use utf16::utf8_piece;
+pub use utf8::{scalar_value, sequence_length};
 
 /// A text: a list of 16-bit units, which may hold lone surrogates.
 ///
@@ -60,8 +61,8 @@ impl Units {
         let mut text = Units::new(alloc);
         let mut rest = bytes;
         while !rest.is_empty() {
-            let (sequence, after) = rest.split_at(utf8::sequence_length(rest));
-            text.push_code_point(utf8::scalar_value(sequence))?;
+            let (sequence, after) = rest.split_at(sequence_length(rest));
+            text.push_code_point(scalar_value(sequence))?;
             rest = after;
         }
         Ok(text)

@@ -74,8 +74,9 @@ fn begins_with(ranges: &[ByteRange], bytes: &[u8]) -> bool
     true
 }
 
+/// How many bytes at the front of some bytes are read together: those of the well-formed UTF-8 sequence that
+/// begins there, from 1 to 4, else one (Unicode 15, table 3-7). It takes no memory.
 #[tactic(auto, unfolding(crate::specs::Text::sequence_length))]
-// How many bytes at the front are read together.
 pub fn sequence_length(bytes: &[u8]) -> usize
     requires { 0 < length bytes.now }
     ensures length { result ≡ sequence_length bytes.now }
@@ -88,7 +89,8 @@ pub fn sequence_length(bytes: &[u8]) -> usize
     }
 }
 
-// The scalar value of a sequence that was cut off by `sequence_length`.
+/// The code point of a sequence that was cut off by `sequence_length`. A byte that belongs to no well-formed
+/// sequence is read as U+FFFD (own rule). It takes no memory.
 pub fn scalar_value(sequence: &[u8]) -> u32
     ensures value { result ≡ scalar_value sequence.now }
     ensures bound { result < 0x200000 }
