@@ -6,7 +6,7 @@ use Rattle.std.specs.Option.{option_map}
 use Rattle.std.proofs.lemmas.Bool.{eqb-true}
 use Rattle.std.proofs.lemmas.Option.{slice_get-map, slice_get-get_or, slice_get_within}
 use Rattle.js_value.specs.Case.{are_keys, texts}
-use Rattle.js_value.proofs.Tables.{texts-keys}
+use Rattle.js_value.proofs.Tables.{keys_when_ascii, texts-ascii}
 use Rattle.es_model.specs.Tokens.{same_text, place_from, keywords, signs}
 
 same_text-true : (a b : List ℕ) → same_text a b ≡ true → a ≡ b
@@ -85,7 +85,10 @@ pub place_at : (list : List (List ℕ)) (row : ℕ) → row < length list → sl
 place_at list row h = place_in 0 list row h ∙ ap (λ k. Some k) (zero-add row)
 
 pub keywords-keys : are_keys keywords ≡ true
-keywords-keys = refl
+keywords-keys = keys_when_ascii keywords refl refl
+
+pub keywords-texts : texts keywords ≡ keywords
+keywords-texts = texts-ascii keywords refl
 
 pub keywords-placed : map (place_from 0 keywords) keywords ≡ map (λ p. Some p) (places_from 0 keywords)
 keywords-placed = refl
@@ -103,7 +106,10 @@ abbrev pub sign_rows : List ℕ
 sign_rows = 46 ∷ 50 ∷ 8 ∷ 9 ∷ 42 ∷ 43 ∷ 25 ∷ 17 ∷ 21 ∷ 26 ∷ 34 ∷ 29 ∷ 35 ∷ 31 ∷ 1 ∷ 32 ∷ 2 ∷ 14 ∷ 18 ∷ 10 ∷ 22 ∷ 3 ∷ 11 ∷ 15 ∷ 19 ∷ 27 ∷ 36 ∷ 38 ∷ 5 ∷ 47 ∷ 44 ∷ 0 ∷ 51 ∷ 6 ∷ 49 ∷ 41 ∷ 40 ∷ 24 ∷ 30 ∷ 16 ∷ 20 ∷ 13 ∷ 23 ∷ 4 ∷ 12 ∷ 28 ∷ 37 ∷ 39 ∷ 7 ∷ 48 ∷ 45 ∷ 33 ∷ []
 
 pub signs-keys : are_keys ascending_signs ≡ true
-signs-keys = refl
+signs-keys = keys_when_ascii ascending_signs refl refl
+
+pub signs-texts : texts ascending_signs ≡ ascending_signs
+signs-texts = texts-ascii ascending_signs refl
 
 pub signs-placed : map (place_from 0 signs) ascending_signs ≡ map (λ p. Some p) sign_places
 signs-placed = refl
@@ -112,8 +118,8 @@ pub signs-rowed : map (slice_get ascending_signs) sign_rows ≡ map (λ t. Some 
 signs-rowed = refl
 
 -- the texts of a table that holds these keys
-pub texts_held : (keys : List (List ℕ)) → are_keys keys ≡ true → (table : List (List ℕ)) → table ≡ keys → (row : ℕ) → slice_get (texts table) row ≡ slice_get keys row
-texts_held keys h table e row = ap (λ t. slice_get (texts t) row) e ∙ ap (λ t. slice_get t row) (texts-keys keys h)
+pub texts_held : (keys : List (List ℕ)) → texts keys ≡ keys → (table : List (List ℕ)) → table ≡ keys → (row : ℕ) → slice_get (texts table) row ≡ slice_get keys row
+texts_held keys h table e row = ap (λ t. slice_get (texts t) row) e ∙ ap (λ t. slice_get t row) h
 
 -- the row of a sign, given its place
 
@@ -129,5 +135,5 @@ sign_at place row table text h e same there =
     sign_row place h ∙ ap (slice_get ascending_signs) (sym e) ∙ ap (λ t. slice_get t row) (sym same) ∙ there
 
 -- what a table of these keys found
-pub found_in : (keys : List (List ℕ)) → are_keys keys ≡ true → (table : List (List ℕ)) → table ≡ keys → (row : ℕ) (text : List ℕ) → slice_get (texts table) row ≡ Some text → slice_get keys row ≡ Some text
+pub found_in : (keys : List (List ℕ)) → texts keys ≡ keys → (table : List (List ℕ)) → table ≡ keys → (row : ℕ) (text : List ℕ) → slice_get (texts table) row ≡ Some text → slice_get keys row ≡ Some text
 found_in keys h table e row text there = sym (texts_held keys h table e row) ∙ there

@@ -1,26 +1,55 @@
 -- Ascending lists of texts: what a search by halves finds in them.
-use Rattle.std.proofs.Common.{◌≡◌, ◌↔◌, ℕ, zero, suc, ◌+◌, ◌<◌, true, false, List, [], ◌∷◌, length, map, Some, None, Result, Ok, Err, get_or, slice_get, IsSorted, HoldsAt, ⊎_elim, refl, sym, ◌∙◌, ap, arith, nat_lt}
+use Rattle.std.proofs.Common.{◌≡◌, ◌↔◌, ℕ, zero, suc, ◌+◌, ◌<◌, Bool, true, false, List, [], ◌∷◌, ◌++◌, length, map, Some, None, Result, Ok, Err, get_or, slice_get, IsSorted, HoldsAt, ⊎_elim, refl, sym, ◌∙◌, ap, ap₂, arith, nat_lt, take, drop}
 use Rattle.std.specs.Cmp.{first_so, second_so}
 use Rattle.std.specs.Cmp.Lexicographic.{slice_cmp}
 use Rattle.std.specs.List.{list_all}
 use Rattle.std.specs.List.Sorted.{IsBinarySearchResult, IsSearchInRange, IsPartitionPoint}
 use Rattle.std.specs.Option.{option_map}
-use Rattle.std.specs.Ordering.{nat_cmp, is_lt, ordering_reverse}
+use Rattle.std.specs.Ordering.{nat_cmp, is_lt, ordering_reverse, ordering_then}
 use Rattle.std.specs.Result.{result_ok}
 use Rattle.std.specs.declared.cmp.Ordering.{Ordering}
 use Rattle.std.specs.declared.cmp.Ordering.TheVariants.{Less, Equal, Greater}
-use Rattle.std.proofs.lemmas.Cmp.{nat_list_cmp_total, tied_itself}
+use Rattle.std.proofs.lemmas.Cmp.{nat_cmp_total, nat_list_cmp_total, tied_itself}
 use Rattle.std.proofs.lemmas.List.Sorted.{searchable_from_sorted}
 use Rattle.std.proofs.lemmas.Map.Lookups.{exact_bytes}
 use Rattle.std.proofs.lemmas.Option.{slice_get-map, slice_get-get_or, slice_get_cases}
 use Rattle.std.proofs.lemmas.Bool.{cases_lt}
 use Rattle.std.proofs.lemmas.Bool.Decides.{nat_tests}
-use Rattle.js_value.specs.Text.{units}
-use Rattle.js_value.specs.Case.{comes_before, are_ascending, is_ascii, are_keys, texts}
+use Rattle.js_value.specs.Text.{scalar_value, sequence_length, units, utf16}
+use Rattle.js_value.specs.Case.{IsDecided, comes_before, are_ascending, are_keys, texts}
+use Rattle.js_value.proofs.Sequences.{units-split}
 use Rattle.js_value.proofs.Ascii.{units-none, units-ascii_cons}
 
 abbrev compared : List ℕ → List ℕ → Ordering
 compared a b = slice_cmp nat_cmp a b
+
+-- equal fronts decide nothing
+pub same_front : (front a b : List ℕ) → compared (front ++ a) (front ++ b) ≡ compared a b
+same_front [] a b = refl
+same_front (x ∷ front) a b = ap (λ o. ordering_then o (compared (front ++ a) (front ++ b))) (tied_itself nat_cmp_total x) ∙ same_front front a b
+
+pub decided_behind : (x : ℕ) (front text : List ℕ) (order : Ordering) → IsDecided front text order → IsDecided (x ∷ front) (x ∷ text) order
+decided_behind x front text order h rest = same_front (x ∷ []) (front ++ rest) text ∙ h rest
+
+pub decided_by_first : (x : ℕ) (front text : List ℕ) (order : Ordering) → IsDecided (x ∷ []) text order → IsDecided (x ∷ front) text order
+decided_by_first x front text order h rest = h (front ++ rest)
+
+-- a key that is read a sequence at a time
+
+module _ (bytes : List ℕ) (n : ℕ) (some : 0 < length bytes) (cut : sequence_length bytes ≡ n) where
+  pub cut_same : (text rest : List ℕ) → text ≡ utf16 (scalar_value (take n bytes)) ++ rest → compared (units (drop n bytes)) rest ≡ compared (units bytes) text
+  cut_same text rest e =
+      sym (same_front (utf16 (scalar_value (take n bytes))) (units (drop n bytes)) rest)
+      ∙ ap₂ compared (sym (units-split bytes n some cut)) (sym e)
+
+  pub cut_decided : (text : List ℕ) (order : Ordering) → IsDecided (utf16 (scalar_value (take n bytes))) text order → order ≡ compared (units bytes) text
+  cut_decided text order h = sym (h (units (drop n bytes))) ∙ ap (λ t. compared t text) (sym (units-split bytes n some cut))
+
+pub key_ended : (text : List ℕ) → nat_cmp 0 (length text) ≡ compared (units []) text
+key_ended [] = ap (λ t. compared t []) (sym units-none)
+key_ended (x ∷ text) =
+    let low : nat_lt 0 (length (x ∷ text)) ≡ true = grind (arith, nat_tests) in
+    rw low (ap (λ t. compared t (x ∷ text)) (sym units-none))
 
 less : (o : Ordering) → is_lt o ≡ true → o ≡ Less
 less Less h = refl
@@ -120,7 +149,11 @@ module _ {X : Type 0} (text : X → List ℕ) where
   row_from_search keys units (Err i) h range parted row =
       (λ e. cc, λ e. absurd (absent keys units i row (parted (searchable_from_sorted nat_list_cmp_total text keys units (sorted keys h))) e))
 
--- an ASCII key's bytes are its text
+-- keys that are ASCII: their bytes are the units of their texts
+
+abbrev pub is_ascii : List ℕ → Bool
+is_ascii key = list_all (λ byte. nat_lt byte 0x80) key
+
 key_text : (key : List ℕ) → is_ascii key ≡ true → units key ≡ key
 key_text [] h = units-none
 key_text (byte ∷ key) h =
@@ -128,13 +161,14 @@ key_text (byte ∷ key) h =
     let low : byte < 128 = grind (arith, nat_tests) in
     units-ascii_cons byte key low ∙ ap (λ s. byte ∷ s) (key_text key (second_so (nat_lt byte 0x80) _ h))
 
-key_texts : (keys : List (List ℕ)) → list_all is_ascii keys ≡ true → texts keys ≡ keys
-key_texts [] h = refl
-key_texts (key ∷ keys) h = λ i. key_text key (first_so (is_ascii key) _ h) i ∷ key_texts keys (second_so (is_ascii key) _ h) i
+pub texts-ascii : (keys : List (List ℕ)) → list_all is_ascii keys ≡ true → texts keys ≡ keys
+texts-ascii [] h = refl
+texts-ascii (key ∷ keys) h = λ i. key_text key (first_so (is_ascii key) _ h) i ∷ texts-ascii keys (second_so (is_ascii key) _ h) i
 
--- the texts of a table's keys are its keys
-pub texts-keys : (keys : List (List ℕ)) → are_keys keys ≡ true → texts keys ≡ keys
-texts-keys keys h = key_texts keys (first_so (list_all is_ascii keys) _ h)
+pub keys_when_ascii : (keys : List (List ℕ)) → list_all is_ascii keys ≡ true → are_ascending keys ≡ true → are_keys keys ≡ true
+keys_when_ascii keys h ascending = ap are_ascending (texts-ascii keys h) ∙ ascending
 
-pub keys_ascend : (keys : List (List ℕ)) → are_keys keys ≡ true → are_ascending keys ≡ true
-keys_ascend keys h = second_so (list_all is_ascii keys) _ h
+-- the texts of keys, read from the keys' own type
+pub texts_of : {X : Type 0} (text : X → List ℕ) (keys : List X) → texts (map text keys) ≡ map (λ key. units (text key)) keys
+texts_of text [] = refl
+texts_of text (key ∷ keys) = ap (λ rest. units (text key) ∷ rest) (texts_of text keys)

@@ -92,6 +92,7 @@ fn keys(rt: HostRuntime) -> Result<(), Fail> {
     Ok(())
 }
 
+#[tactic(auto, unfolding(crate::specs::Text::units, crate::specs::Text::sequence_length))]
 #[test]
 fn rows_of_texts(rt: HostRuntime) {
     let table: Case<3> = Case::new(["do", "double", "in"]);

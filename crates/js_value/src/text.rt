@@ -10,8 +10,8 @@ ghost use Rattle.js_value.specs.Text.{units, utf16, scalar_value, sequence_lengt
 
 use std::alloc::{AllocError, Global};
 use std::marker::Model;
-pub use utf16::utf8_piece;
 pub use utf8::{scalar_value, sequence_length};
+pub use utf16::utf8_piece;
 
 /// A text: a list of 16-bit units, which may hold lone surrogates.
 ///

@@ -1,12 +1,12 @@
 -- The table's rows are the list's places.
-use Rattle.std.proofs.Common.{◌≡◌, ◌<◌, Some, slice_get, sym, ◌∙◌, arith, refl}
+use Rattle.std.proofs.Common.{lit<, ◌≡◌, ◌<◌, Some, slice_get, sym, ◌∙◌, arith, refl}
 use Rattle.std.proofs.lemmas.Option.{slice_get_within}
 use Rattle.es_model.specs.Tokens.{keywords}
-use Rattle.es_model.proofs.Places.{place_of_row, no_place, place_at, places_from, texts_held, found_in, keywords-keys, keywords-placed, keywords-rowed}
+use Rattle.es_model.proofs.Places.{keywords-keys, place_of_row, no_place, place_at, places_from, texts_held, found_in, keywords-texts, keywords-placed, keywords-rowed}
 use Rattle.es_model.proofs.words.keyword.Goals as goal
 
 found : (c : goal.In-Some) → slice_get keywords c.in-Some.row ≡ Some c.args.units.now
-found c = found_in keywords keywords-keys c.new-table.result c.new-table.ensures c.in-Some.row c.args.units.now ((c.in-Some.ensures.row c.in-Some.row).0 refl)
+found c = found_in keywords keywords-texts c.new-table.result c.new-table.ensures c.in-Some.row c.args.units.now ((c.in-Some.ensures.row c.in-Some.row).0 refl)
 
 within : (c : goal.In-Some) → c.in-Some.row < 46
 within c = slice_get_within keywords c.in-Some.row c.args.units.now (found c)
@@ -20,4 +20,7 @@ returns-in-Some c =
 
 pub returns-in-None : goal.returns-in-None
 returns-in-None c =
-    sym (no_place keywords keywords (places_from 0 keywords) c.args.units.now keywords-rowed (λ row h. let there = (c.in-None.ensures.row row).1 (texts_held keywords keywords-keys c.new-table.result c.new-table.ensures row ∙ h) in cc))
+    sym (no_place keywords keywords (places_from 0 keywords) c.args.units.now keywords-rowed (λ row h. let there = (c.in-None.ensures.row row).1 (texts_held keywords keywords-texts c.new-table.result c.new-table.ensures row ∙ h) in cc))
+
+pub new-table-requires : goal.new-table-requires
+new-table-requires c = (lit< tt, (lit< tt, keywords-keys))

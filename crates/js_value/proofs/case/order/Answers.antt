@@ -1,16 +1,22 @@
-use Rattle.std.proofs.Common.{rules, ◌≡◌, refl}
-use Rattle.std.specs.Ordering.{nat_cmp}
-use Rattle.std.proofs.lemmas.Iterator.{YieldsList-from_slice, YieldsList-from_map}
-use Rattle.std.proofs.lemmas.Iterator.Adapters.{YieldsList-from_bytes}
-use Rattle.std.proofs.lemmas.Iterator.Consumers.{YieldsList-from_copied, YieldsList-at}
-use Rattle.std.proofs.lemmas.Iterator.Search.{cmp_from_yields_List}
-use Rattle.std.proofs.lemmas.List.{map-id}
+use Rattle.std.proofs.Common.{◌≡◌, ◌<◌, length, sym, ◌∙◌, arith}
+use Rattle.std.proofs.lemmas.List.{nil_from_length}
+use Rattle.std.proofs.lemmas.Bool.Decides.{nat_tests}
+use Rattle.js_value.proofs.Tables.{cut_same, cut_decided, key_ended}
 use Rattle.js_value.proofs.case.order.Goals as goal
+
+pub returns-in-Err : goal.returns-in-Err
+returns-in-Err c =
+    let some : 0 < length c.loop-key_left.key_left.now = omega (arith, c.sequence_length.ensures.some, c.sequence_length.ensures.within) in
+    cut_decided c.loop-key_left.key_left.now c.sequence_length.result some (sym c.sequence_length.ensures.length) c.loop-key_left.text_left.now c.in-Err.order (rw (c.scalar_value.ensures.value, c.split_at.ensures.front) at c.in-Err.ensures.err)
+    ∙ c.loop-key_left.invariant
+
+pub loop-key_left-preserved : goal.loop-key_left-preserved
+loop-key_left-preserved c =
+    let some : 0 < length c.loop-key_left.key_left.now = omega (arith, c.sequence_length.ensures.some, c.sequence_length.ensures.within) in
+    let same = cut_same c.loop-key_left.key_left.now c.sequence_length.result some (sym c.sequence_length.ensures.length) c.loop-key_left.text_left.now c.in-Ok.rest.now (rw (c.scalar_value.ensures.value, c.split_at.ensures.front) at c.in-Ok.ensures.ok) in
+    rw c.split_at.ensures.back (same ∙ c.loop-key_left.invariant)
 
 pub returns : goal.returns
 returns c =
-    let answer = cmp_from_yields_List (λ x y. y ≡ x) _ nat_cmp _ c.cmp.ensures.ran
-    (YieldsList-from_map _ (λ x. x) (YieldsList-at c.map.ensures.source (YieldsList-from_bytes c.args.key.now c.bytes.ensures.rest)) c.map.ensures.closure (λ x r q k. search rules))
-    (λ it e. YieldsList-at e (YieldsList-from_copied (YieldsList-at c.copied.ensures.source (YieldsList-from_slice c.args.units.now c.iter.ensures.rest))))
-    (λ x y. refl) in
-    rw map-id at answer
+    let none : length c.loop-key_left.key_left.now ≡ 0 = grind (arith, nat_tests) in
+    c.cmp.ensures ∙ key_ended c.loop-key_left.text_left.now ∙ (rw (nil_from_length c.loop-key_left.key_left.now none) at c.loop-key_left.invariant)
