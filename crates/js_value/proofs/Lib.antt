@@ -15,6 +15,7 @@ pub mod Laws
 pub mod Samples
 pub mod Below
 pub mod Entries
+pub mod Profile
 mod KeyRows
 pub mod Keys
 pub mod NumberTexts
