@@ -3,9 +3,10 @@ use Rattle.std.proofs.Common.{◌≡◌, ℕ, ◌+◌, ◌<◌, ◌≤◌, Bool,
 use Rattle.js_value.specs.Value.{Text, Named}
 use Rattle.js_value.specs.Store.{Store, Thing, AnObject, ACell, AMark, ObjectRecord, Property, Content, Data, Accessor, Class, Ordinary, Array, ScriptFunction, BuiltInFunction, ResolveFunction, RejectFunction, Error, Promise, PromiseState, Pending, Fulfilled, Rejected, Reaction, object_in, cell_in, mark_in, as_object, as_cell, no_object, own_property, is_length_of, frozen, size}
 use Rattle.js_value.specs.Literal.{digits_number}
-use Rattle.js_value.specs.Order.{IsOrderly}
+use Rattle.js_value.specs.Order.{IsName, IsOrderly}
 use Rattle.js_value.specs.WellFormed.{IfValueBelow, AreNumbersBelow, IsContentBelow, IsStateBelow, IsReactionBelow, AreReactionsBelow, IsClassBelow, IsObjectBelow, IsThingBelow, IsThingOrderly, ChainEnds, IsWellFormed}
 use Rattle.js_value.proofs.Below.{value_more, object_more, if_value_more, numbers_more}
+use Rattle.js_value.proofs.Profile.{text_tested}
 use Rattle.es_model.specs.State.{World, Ledger, Counts, plus, nothing, some_slots, some_units, Job, FulfilJob, RejectJob, ThenableJob}
 use Rattle.es_model.specs.Ledger.{Happens, Full, charged, charged_unless, passed, written, with_thing, first_cost, with_name, name_added, name_cost, growth}
 use Rattle.es_model.specs.InternalMethods.{Method, DefineOwnProperty, Delete, PreventExtensions, SetPrototypeOf, Freeze, apply_method, set_prototype_of, same_prototype, on_chain, longest, refused, unchanged, wrote, prevent_extensions, freeze}
@@ -19,7 +20,7 @@ use Rattle.es_model.proofs.Orderly.{HasKey, method_orderly, with_property_orderl
 -- ---- stores
 
 no_object_orderly : IsOrderly no_object
-no_object_orderly = record { indices = tt; range = tt; length = tt; names = tt; no_index = tt; no_length = tt }
+no_object_orderly = record { indices = tt; range = tt; length = tt; names = tt; distinct = tt; no_length = tt }
 
 no_object_below : (m : ℕ) → IsObjectBelow m no_object
 no_object_below m = record { class = tt; prototype = tt; indexed = tt; named = tt }
@@ -160,7 +161,7 @@ apply_well w n m before answer (Some after) h o b c =
 -- ---- promises
 
 promise_orderly : (o : ObjectRecord) (state : PromiseState) (reactions : List Reaction) → IsOrderly o → IsOrderly (record o { class = Promise state reactions })
-promise_orderly o state reactions h = record { indices = h.indices; range = h.range; length = tt; names = h.names; no_index = h.no_index; no_length = tt }
+promise_orderly o state reactions h = record { indices = h.indices; range = h.range; length = tt; names = h.names; distinct = h.distinct; no_length = tt }
 
 promise_below : (m : ℕ) (o : ObjectRecord) (state : PromiseState) (reactions : List Reaction) → IsStateBelow m state → AreReactionsBelow m reactions → IsObjectBelow m o → IsObjectBelow m (record o { class = Promise state reactions })
 promise_below m o state reactions s r h = record { class = (s, r); prototype = h.prototype; indexed = h.indexed; named = h.named }
@@ -228,10 +229,13 @@ pointing_below : (m p : ℕ) (c : Content) → p < m → IsContentBelow m c → 
 pointing_below m p (Data v w) l h = l
 pointing_below m p (Accessor g s) l h = h
 
-with_prototype_orderly : (p : ℕ) (o : ObjectRecord) (q : Option Property) → IsOrderly o → IsOrderly (with_prototype p o q)
+prototype_name_is : IsName prototype_name
 unfolding digits_number
+prototype_name_is = record { text = text_tested prototype_name refl; no_index = refl }
+
+with_prototype_orderly : (p : ℕ) (o : ObjectRecord) (q : Option Property) → IsOrderly o → IsOrderly (with_prototype p o q)
 with_prototype_orderly p o None h = h
-with_prototype_orderly p o (Some q) h = with_property_orderly o prototype_name (record q { content = pointing_to p q.content }) refl (no_length o.class) h
+with_prototype_orderly p o (Some q) h = with_property_orderly o prototype_name (record q { content = pointing_to p q.content }) prototype_name_is (no_length o.class) h
 
 with_prototype_below : (m p : ℕ) (o : ObjectRecord) (q : Option Property) → p < m → IfSome q (λ r. IsContentBelow m r.content) → IsObjectBelow m o → IsObjectBelow m (with_prototype p o q)
 with_prototype_below m p o None l c h = h
@@ -251,7 +255,7 @@ attach_well w f p (Some (AnObject o)) e l h =
     let after : Thing = AnObject (with_prototype p o q) in
     store_well w (set w.store f after) (set_le w.store f after) h
     (set_well w.store f after h.store (with_prototype_orderly p o q orderly)
-    (with_prototype_below (length w.store) p o q l (own_property_below (length w.store) o (Named prototype_name) below) below)
+    (with_prototype_below (length w.store) p o q l (own_property_below (length w.store) o (Named prototype_name) orderly below) below)
     (set_chain w.store f after (with_prototype_same p o q ∙ ap (λ (x : ObjectRecord). x.prototype) (sym here))))
 attach_well w f p (Some (ACell c)) e l h = h
 attach_well w f p (Some (AMark b)) e l h = h
@@ -298,7 +302,7 @@ perform_well (Apply n m) w h b =
     let before : ObjectRecord = object_in w.store n in
     apply_well w n m before (apply_method m w.store n before).answer (apply_method m w.store n before).written h
     (method_orderly m w.store n before (has_key (length w.store) m b) (h.store.orderly n))
-    (method_below (length w.store) m w.store n before b (h.store.objects n))
+    (method_below (length w.store) m w.store n before b (h.store.orderly n) (h.store.objects n))
     (method_chain m w.store n)
 perform_well (Attach f p) w h b = (attach_well w f p (slice_get w.store f) refl b h, tt)
 perform_well (SetCell n v) w h b = other_well w n (ACell (cell_in w.store n)) (ACell (record { value = Some v; const = (cell_in w.store n).const })) nothing h tt b refl
