@@ -21,3 +21,4 @@ pub mod Keys
 pub mod NumberTexts
 pub mod Tables
 mod CaseRows
+mod ValueRows
