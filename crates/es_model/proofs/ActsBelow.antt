@@ -5,7 +5,7 @@ use Rattle.js_value.specs.NumberText.{number_of_text}
 use Rattle.js_value.specs.Value.{Value, Undefined, Null, Boolean, Number, String, Object, is_object, Text, same_text, Key, Index, Named, Numeral, text_of_key}
 use Rattle.js_value.specs.Store.{Property, Content, Data, Accessor, callable_class, length_name}
 use Rattle.js_value.specs.Literal.{digits_number}
-use Rattle.js_value.specs.Order.{IsText, IsName, IsKey, IsOrderly}
+use Rattle.js_value.specs.Order.{IsText, IsKey, IsOrderly}
 use Rattle.js_value.specs.WellFormed.{IsValueBelow, IsContentBelow, IsObjectBelow}
 use Rattle.js_value.proofs.Keys.{key_of_text_is_key, key_of_number_is_key}
 use Rattle.js_value.proofs.Profile.{is_text, text_tested, text_of_number_is_text, number_of_text_is_number, unit_of_text}

@@ -3,7 +3,7 @@ use Rattle.std.proofs.Common.{◌≡◌, ℕ, ◌<◌, ◌≤◌, Bool, List, []
 use Rattle.js_value.specs.Value.{Value, Undefined, Null, Boolean, Number, String, Object, Named}
 use Rattle.js_value.specs.Store.{length_name, Reaction, Pending, Fulfilled, Rejected, Class, Ordinary, Array, ScriptFunction, BuiltInFunction, ResolveFunction, RejectFunction, Error, Promise}
 use Rattle.js_value.specs.Literal.{digits_number}
-use Rattle.js_value.specs.Order.{IsName, IsOrderly}
+use Rattle.js_value.specs.Order.{IsOrderly}
 use Rattle.js_value.specs.WellFormed.{IsValueBelow, IsClassBelow, AreReactionsBelow, IsObjectBelow}
 use Rattle.js_value.proofs.Below.{value_more, reactions_more}
 use Rattle.js_value.proofs.Profile.{text_tested}

@@ -1,16 +1,13 @@
 -- What writes of preloaded things cost: marks, frozen things, a number as a key; and what `resume` starts with.
-use Rattle.std.proofs.Common.{◌≡◌, ℕ, true, false, List, [], ◌∷◌, ◌++◌, refl, Some, None, pos, codes}
-use Rattle.js_value.specs.Value.{Value, Undefined, Null, Number, String, Object, Index, Named, Numeral}
-use Rattle.js_value.specs.Store.{Thing, AnObject, ACell, Property, Data, ObjectRecord}
-use Rattle.es_model.specs.State.{Counts, nothing, some_slots, costs_at_start, counts_at_resume, FulfilJob}
-use Rattle.es_model.specs.Ledger.{OutOf, Slots, Units}
+use Rattle.std.proofs.Common.{◌≡◌, ℕ, true, false, List, [], ◌∷◌, refl, None, pos, codes}
+use Rattle.js_value.specs.Value.{Value, Undefined, Null, Number, Object, Numeral}
+use Rattle.js_value.specs.Store.{Thing, AnObject, Property, Data, ObjectRecord}
+use Rattle.es_model.specs.State.{nothing, some_slots, costs_at_start, counts_at_resume, FulfilJob}
 use Rattle.es_model.specs.InternalMethods.{Freeze, PreventExtensions, SetPrototypeOf}
-use Rattle.es_model.specs.Events.{SetCell, Apply}
+use Rattle.es_model.specs.Events.{Apply}
 use Rattle.es_model.specs.Act.{Act, Give, Do, run, Ran}
-use Rattle.es_model.specs.Errors.{make_text}
-use Rattle.es_model.specs.PropertyWrites.{put_value, set_or_throw}
-use Rattle.es_model.specs.Conversions.{to_number}
-use Rattle.es_model.proofs.Samples.{plain, ordinary, array_of, realm_of, ample, world_with, state_in, calls, came, Gave, Threw, Stopped, used_after, computing}
+use Rattle.es_model.specs.PropertyWrites.{put_value}
+use Rattle.es_model.proofs.Samples.{plain, ordinary, array_of, realm_of, ample, world_with, state_in, calls, used_after, computing}
 
 -- a run over preloaded things whose first writes count, with so many slots
 over : List Thing → (slots : ℕ) → Act → Ran

@@ -1,10 +1,10 @@
 -- Worked programs over preloaded things, each as the acts that it comes to: what it prints, and what it counts.
-use Rattle.std.proofs.Common.{◌≡◌, ℕ, true, false, List, [], ◌∷◌, ◌++◌, set, refl, Some, None, ℤ, pos, codes}
+use Rattle.std.proofs.Common.{◌≡◌, ℕ, true, false, List, [], ◌∷◌, ◌++◌, set, refl, Some, None, pos, codes}
 use Rattle.js_value.specs.Number.{num, sum}
 use Rattle.js_value.specs.Text.{utf8, encoded, character_length}
 use Rattle.js_value.specs.Value.{Value, Undefined, Number, String, Object, Text, Key, Named, key_of_number}
-use Rattle.js_value.specs.Store.{Thing, AnObject, ACell, Property, Data, ObjectRecord, Array}
-use Rattle.es_model.specs.State.{World, State, Counts, nothing, some_slots, costs_at_start, TraceEvent, Wrote}
+use Rattle.js_value.specs.Store.{Thing, AnObject, ACell, Property, Data, Array}
+use Rattle.es_model.specs.State.{State, Counts, nothing, some_slots, costs_at_start, TraceEvent, Wrote}
 use Rattle.es_model.specs.Ledger.{OutOf, Slots, Units}
 use Rattle.es_model.specs.InternalMethods.{Freeze}
 use Rattle.es_model.specs.Events.{Write, Apply}

@@ -1,5 +1,5 @@
 -- A world that is well-formed.
-use Rattle.std.proofs.Common.{ℕ, ◌<◌, [], ◌∷◌, ◌++◌, length, lit≤}
+use Rattle.std.proofs.Common.{ℕ, [], ◌∷◌, ◌++◌, length, lit≤}
 use Rattle.js_value.specs.Store.{Store}
 use Rattle.js_value.specs.WellFormed.{AreNumbersBelow, IsThingBelow, IsThingOrderly, IsWellFormed}
 use Rattle.es_model.specs.Laws.{IsWorldWellFormed}

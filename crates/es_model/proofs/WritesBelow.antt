@@ -17,7 +17,7 @@ use Rattle.es_model.specs.Conversions.{DefaultHint, to_number, number_expected, 
 use Rattle.es_model.specs.PropertyWrites.{NumberConversion, length_or_raise, with_length_value, define_own_property, define_property_or_throw, create_data_property, create_data_property_or_throw, accepted_or, take_set_step, set_found, ordinary_set, set_inherited, set_on_string, set_v, set_or_throw, put_value, delete_property_or_throw, delete_on_string, delete_v}
 use Rattle.es_model.specs.Bindings.{make_cell, initialize_cell, value_or_raise, read_cell, write_cell, copy_cell}
 use Rattle.es_model.specs.Laws.{IsDescriptorBelow, IsStepBelow, IsActBelow}
-use Rattle.es_model.specs.Operations.{Later, AnyBool, ANumber, AThing, IsConversionBelow}
+use Rattle.es_model.specs.Operations.{Later, AnyBool, AThing, IsConversionBelow}
 use Rattle.es_model.proofs.ActsBelow.{later_more, act_more, cond_below, raise_below, to_primitive_below, to_number_below, number_expected_below}
 
 -- ---- bindings
