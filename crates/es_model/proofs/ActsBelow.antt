@@ -1,30 +1,25 @@
--- The operations speak only of things that stand, where what they are handed does.
-use Rattle.std.proofs.Common.{ℕ, ◌<◌, ◌≤◌, Bool, true, false, cond, [], ◌∷◌, length, ℤ, pos, nat_lt, arith, refl, Option, Some, None, IfSome, le_refl, le_trans, codes}
-use Rattle.js_value.specs.Value.{Value, Undefined, Null, Boolean, Number, String, Object, is_object, Text, Key, Named}
-use Rattle.js_value.specs.Store.{Property, Content, Data, Accessor, callable_class}
+-- The operations hold only values of the profile and of things that stand, where what they are handed does.
+use Rattle.std.proofs.Common.{◌≡◌, ℕ, ◌<◌, ◌≤◌, Bool, true, false, cond, [], ◌∷◌, length, ℤ, pos, nat_lt, arith, refl, Option, Some, None, IfSome, is_some, le_refl, le_trans, codes, slice_get, lit≤}
+use Rattle.js_value.specs.Number.{IsNumber}
+use Rattle.js_value.specs.NumberText.{number_of_text}
+use Rattle.js_value.specs.Value.{Value, Undefined, Null, Boolean, Number, String, Object, is_object, Text, same_text, Key, Index, Named, Numeral, text_of_key}
+use Rattle.js_value.specs.Store.{Property, Content, Data, Accessor, callable_class, length_name}
 use Rattle.js_value.specs.Literal.{digits_number}
-use Rattle.js_value.specs.Order.{IsOrderly}
+use Rattle.js_value.specs.Order.{IsText, IsKey, IsOrderly}
 use Rattle.js_value.specs.WellFormed.{IsValueBelow, IsContentBelow, IsObjectBelow}
+use Rattle.js_value.proofs.Keys.{key_of_text_is_key, key_of_number_is_key}
+use Rattle.js_value.proofs.Profile.{is_text, text_tested, text_of_number_is_text, number_of_text_is_number, unit_of_text}
 use Rattle.js_value.proofs.Below.{value_more, values_more, if_value_more, content_more, reaction_more, state_more, thing_more, if_number_more}
-use Rattle.es_model.specs.Messages.{Message, StringTooLong, NumberOutOfRange, NoPrimitiveValue, NoProperties, text_of_message}
+use Rattle.es_model.specs.Messages.{Message, NumberOutOfRange, StringTooLong, InvalidArrayLength, InvalidArgument, NotDefined, NotInitialised, EmptyArray, SuperCalledTwice, AssignmentToConstant, NotAFunction, NotAConstructor, CalledWithoutNew, NoProperties, NotWritable, NotDefinable, NotDeletable, NotAnObject, NoPrimitiveValue, PrimitiveExpected, AccessorOnIndex, PrototypeNotSettable, ResolvedWithItself, WrongReceiver, ReturnedPrimitive, text_of_message}
 use Rattle.es_model.specs.State.{Job, FulfilJob, RejectJob, ThenableJob}
 use Rattle.es_model.specs.InternalMethods.{Method, DefineOwnProperty, Delete, PreventExtensions, SetPrototypeOf, Freeze}
 use Rattle.es_model.specs.Events.{Question, TheObject, TheCell, TheMark, TheProperty, TheSetStep, TheIntrinsic, TheInput, Deed, Make, Apply, Attach, SetCell, SetMark, Settle, AddReaction, Enqueue, Dequeue, AddRejection, RemoveRejection, MakeText, Write, Take}
 use Rattle.es_model.specs.Act.{Act, Give, Throw, Halt, Turn, Ask, Do, Call, Try, ◌>>=◌, completed, by_completion, Completion, NormalCompletion, ThrowCompletion}
-use Rattle.es_model.specs.Errors.{make_error, raise, make_text, error_record, longest_text}
-use Rattle.es_model.specs.PropertyReads.{is_callable, call_getter, content_value, property_value, get, inherited, StringProperty, AUnit, Length, Inherits, string_property, string_value, get_v}
-use Rattle.es_model.specs.Conversions.{Hint, DefaultHint, NumberHint, StringHint, primitive_by, to_primitive, number_of_primitive, number_or_raise, to_number, text_of_primitive, to_string}
+use Rattle.es_model.specs.Errors.{make_error, raise, make_text, message_name, error_record, longest_text}
+use Rattle.es_model.specs.PropertyReads.{is_callable, call_getter, content_value, property_value, get, has_property, inherited, StringProperty, AUnit, Length, Inherits, string_unit, string_property, string_value, get_v}
+use Rattle.es_model.specs.Conversions.{Hint, DefaultHint, NumberHint, StringHint, primitive_by, to_primitive, number_of_primitive, number_or_raise, to_number, text_of_primitive, to_string, key_of_primitive, to_property_key, primitive_expected, number_expected, text_expected, key_expected}
 use Rattle.es_model.specs.Laws.{IsMethodBelow, IsJobBelow, IsDeedBelow, IsQuestionBelow, IsCompletionBelow, IsActBelow}
-
--- what comes after, with something that stands by then
-abbrev pub Later : {T : Type 0} → ℕ → (ℕ → T → Type 0) → (T → Act) → Type 0
-Later {T} m B k = (n : ℕ) → m ≤ n → (x : T) → B n x → IsActBelow n (k x)
-
-abbrev pub Any : {T : Type 0} → ℕ → T → Type 0
-Any n x = Unit {0}
-
-abbrev pub IsNumberBelow : ℕ → ℕ → Type 0
-IsNumberBelow n x = x < n
+use Rattle.es_model.specs.Operations.{Later, AnyBool, ANumber, AText, AKey, AThing}
 
 pub later_more : {T : Type 0} (m n : ℕ) (B : ℕ → T → Type 0) (k : T → Act) → m ≤ n → Later m B k → Later n B k
 later_more m n B k le h = λ i l x b. h i (le_trans le l) x b
@@ -70,7 +65,7 @@ question_more m n le (TheProperty key k) h = tt
 question_more m n le (TheIntrinsic at) h = tt
 question_more m n le TheInput h = tt
 
--- an act that speaks of things below m speaks of things below any n past it
+-- an act that holds only values of things below m holds only values of things below any n past it
 pub act_more : (m n : ℕ) → m ≤ n → (p : Act) → IsActBelow m p → IsActBelow n p
 act_more m n le (Give v) h = value_more m n le v h
 act_more m n le (Throw v) h = value_more m n le v h
@@ -115,26 +110,55 @@ cond_below m false p q h g = g
 
 error_orderly : (prototype : ℕ) (text : Text) → IsOrderly (error_record prototype text)
 unfolding digits_number
-error_orderly prototype text = record { indices = tt; range = tt; length = tt; names = (refl, tt); no_index = (refl, tt); no_length = tt }
+error_orderly prototype text = record { indices = tt; range = tt; length = tt; names = (record { text = text_tested message_name refl; no_index = refl }, tt); distinct = (refl, tt); no_length = tt }
 
-error_below : (m prototype : ℕ) (text : Text) → prototype < m → IsObjectBelow m (error_record prototype text)
-error_below m prototype text l = record { class = tt; prototype = l; indexed = tt; named = (tt, tt) }
+error_below : (m prototype : ℕ) (text : Text) → prototype < m → IsText text → IsObjectBelow m (error_record prototype text)
+error_below m prototype text l t = record { class = tt; prototype = l; indexed = tt; named = (t, tt) }
 
-pub make_error_below : (m : ℕ) (e : Message) (k : ℕ → Act) → Later m IsNumberBelow k → IsActBelow m (make_error e k)
+message_is_text : (e : Message) → IsText (text_of_message e)
+message_is_text e = text_tested (text_of_message e) (tested e)
+  where
+    tested : (e : Message) → is_text (text_of_message e) ≡ true
+    tested NumberOutOfRange = refl
+    tested StringTooLong = refl
+    tested InvalidArrayLength = refl
+    tested InvalidArgument = refl
+    tested NotDefined = refl
+    tested NotInitialised = refl
+    tested EmptyArray = refl
+    tested SuperCalledTwice = refl
+    tested AssignmentToConstant = refl
+    tested NotAFunction = refl
+    tested NotAConstructor = refl
+    tested CalledWithoutNew = refl
+    tested NoProperties = refl
+    tested NotWritable = refl
+    tested NotDefinable = refl
+    tested NotDeletable = refl
+    tested NotAnObject = refl
+    tested NoPrimitiveValue = refl
+    tested PrimitiveExpected = refl
+    tested AccessorOnIndex = refl
+    tested PrototypeNotSettable = refl
+    tested ResolvedWithItself = refl
+    tested WrongReceiver = refl
+    tested ReturnedPrimitive = refl
+
+pub make_error_below : (m : ℕ) (e : Message) (k : ℕ → Act) → Later m AThing k → IsActBelow m (make_error e k)
 unfolding make_error
-make_error_below m e k h = (tt, λ n l p b. ((error_below n p (text_of_message e) b, error_orderly p (text_of_message e)), λ i j a c. h i (le_trans l j) a c))
+make_error_below m e k h = (tt, λ n l p b. ((error_below n p (text_of_message e) b (message_is_text e), error_orderly p (text_of_message e)), λ i j a c. h i (le_trans l j) a c))
 
 pub raise_below : (m : ℕ) (e : Message) → IsActBelow m (raise e)
 unfolding raise
 raise_below m e = make_error_below m e _ (λ n l a b. b)
 
-pub make_text_below : (m : ℕ) (t : Text) (k : Value → Act) → Later m IsValueBelow k → IsActBelow m (make_text t k)
+pub make_text_below : (m : ℕ) (t : Text) (k : Value → Act) → IsText t → Later m IsValueBelow k → IsActBelow m (make_text t k)
 unfolding make_text
-make_text_below m t k h = cond_below m (nat_lt longest_text (length t)) (raise StringTooLong) (Do (MakeText (length t)) (λ _. k (String t))) (raise_below m StringTooLong) (tt, λ n l a b. h n l (String t) tt)
+make_text_below m t k x h = cond_below m (nat_lt longest_text (length t)) (raise StringTooLong) (Do (MakeText (length t)) (λ _. k (String t))) (raise_below m StringTooLong) (tt, λ n l a b. h n l (String t) x)
 
 -- ---- reads
 
-pub is_callable_below : (m : ℕ) (v : Value) (k : Bool → Act) → Later m Any k → IsActBelow m (is_callable v k)
+pub is_callable_below : (m : ℕ) (v : Value) (k : Bool → Act) → Later m AnyBool k → IsActBelow m (is_callable v k)
 unfolding is_callable
 is_callable_below m (Object f) k h = (tt, λ n l o b. h n l (callable_class o.class) tt)
 is_callable_below m Undefined k h = h m (le_refl m) false tt
@@ -164,20 +188,48 @@ pub get_below : (m o : ℕ) (key : Key) (k : Value → Act) → o < m → Later 
 unfolding get
 get_below m o key k l h = (tt, λ n le p b. property_value_below n p (Object o) k b (omega arith) (later_more m n IsValueBelow k le h))
 
+pub has_property_below : (m o : ℕ) (key : Key) (k : Bool → Act) → Later m AnyBool k → IsActBelow m (has_property o key k)
+unfolding has_property
+has_property_below m o key k h = (tt, λ n le p b. h n le (is_some p) tt)
+
 inherited_below : (m place : ℕ) (receiver : Value) (key : Key) (k : Value → Act) → IsValueBelow m receiver → Later m IsValueBelow k → IsActBelow m (inherited place receiver key k)
 inherited_below m place receiver key k r h =
     (tt, λ n le p b. (tt, λ i l q c. property_value_below i q receiver k c (value_more m i (le_trans le l) receiver r) (later_more m i IsValueBelow k (le_trans le l) h)))
 
-string_value_below : (m : ℕ) (t : Text) (p : StringProperty) (key : Key) (k : Value → Act) → Later m IsValueBelow k → IsActBelow m (string_value t p key k)
-string_value_below m t (AUnit u) key k h = make_text_below m (u ∷ []) k h
-string_value_below m t Length key k h = h m (le_refl m) (Number (pos (length t))) tt
-string_value_below m t Inherits key k h = inherited_below m 11 (String t) key k tt h
+-- a unit that is read from a text has 16 bits
+IsUnit : StringProperty → Type 0
+IsUnit (AUnit u) = u < 65536
+IsUnit p = Unit {0}
+
+property_is_unit : (t : Text) (key : Key) → IsText t → IsUnit (string_property t key)
+unfolding IsUnit
+property_is_unit t (Index i) x = at (slice_get t i) (unit_of_text t i x.units)
+  where
+    at : (o : Option ℕ) → IfSome o (λ u. u < 65536) → IsUnit (string_unit o)
+    at None h = tt
+    at (Some u) h = h
+property_is_unit t (Named name) x = by_test (same_text (text_of_key (Named name)) length_name)
+  where
+    by_test : (b : Bool) → IsUnit (cond b Length Inherits)
+    by_test true = tt
+    by_test false = tt
+property_is_unit t (Numeral z) x = by_test (same_text (text_of_key (Numeral z)) length_name)
+  where
+    by_test : (b : Bool) → IsUnit (cond b Length Inherits)
+    by_test true = tt
+    by_test false = tt
+
+string_value_below : (m : ℕ) (t : Text) (p : StringProperty) (key : Key) (k : Value → Act) → IsText t → IsUnit p → Later m IsValueBelow k → IsActBelow m (string_value t p key k)
+unfolding IsUnit
+string_value_below m t (AUnit u) key k x i h = make_text_below m (u ∷ []) k (record { units = (i, tt); bound = lit≤ tt }) h
+string_value_below m t Length key k x i h = h m (le_refl m) (Number (pos (length t))) (record { bound = x.bound })
+string_value_below m t Inherits key k x i h = inherited_below m 11 (String t) key k x h
 
 pub get_v_below : (m : ℕ) (v : Value) (key : Key) (k : Value → Act) → IsValueBelow m v → Later m IsValueBelow k → IsActBelow m (get_v v key k)
 unfolding get_v
 get_v_below m (Object o) key k b h = get_below m o key k b h
-get_v_below m (String t) key k b h = string_value_below m t (string_property t key) key k h
-get_v_below m (Number x) key k b h = inherited_below m 8 (Number x) key k tt h
+get_v_below m (String t) key k b h = string_value_below m t (string_property t key) key k b (property_is_unit t key b) h
+get_v_below m (Number x) key k b h = inherited_below m 8 (Number x) key k b h
 get_v_below m (Boolean x) key k b h = inherited_below m 7 (Boolean x) key k tt h
 get_v_below m Undefined key k b h = raise_below m NoProperties
 get_v_below m Null key k b h = raise_below m NoProperties
@@ -199,17 +251,73 @@ to_primitive_below m DefaultHint (Object o) k b h = primitive_by_below m o (code
 to_primitive_below m hint Undefined k b h = h m (le_refl m) Undefined tt
 to_primitive_below m hint Null k b h = h m (le_refl m) Null tt
 to_primitive_below m hint (Boolean x) k b h = h m (le_refl m) (Boolean x) tt
-to_primitive_below m hint (Number x) k b h = h m (le_refl m) (Number x) tt
-to_primitive_below m hint (String x) k b h = h m (le_refl m) (String x) tt
+to_primitive_below m hint (Number x) k b h = h m (le_refl m) (Number x) b
+to_primitive_below m hint (String x) k b h = h m (le_refl m) (String x) b
 
-number_or_raise_below : (m : ℕ) (n : Option ℤ) (k : ℤ → Act) → Later m Any k → IsActBelow m (number_or_raise n k)
-number_or_raise_below m None k h = raise_below m NumberOutOfRange
-number_or_raise_below m (Some n) k h = h m (le_refl m) n tt
+primitive_is_number : (m : ℕ) (p : Value) → IsValueBelow m p → IfSome (number_of_primitive p) IsNumber
+primitive_is_number m Null b = record { bound = lit≤ tt }
+primitive_is_number m (Boolean true) b = record { bound = lit≤ tt }
+primitive_is_number m (Boolean false) b = record { bound = lit≤ tt }
+primitive_is_number m (Number n) b = b
+primitive_is_number m (String t) b = by_text (number_of_text t) (number_of_text_is_number t)
+  where
+    by_text : (o : Option ℤ) → ((n : ℤ) → o ≡ Some n → IsNumber n) → IfSome o IsNumber
+    by_text None h = tt
+    by_text (Some n) h = h n refl
+primitive_is_number m Undefined b = tt
+primitive_is_number m (Object n) b = tt
 
-pub to_number_below : (m : ℕ) (v : Value) (k : ℤ → Act) → IsValueBelow m v → Later m Any k → IsActBelow m (to_number v k)
+primitive_is_text : (m : ℕ) (p : Value) → IsValueBelow m p → IsText (text_of_primitive p)
+primitive_is_text m Undefined b = text_tested (codes "undefined") refl
+primitive_is_text m Null b = text_tested (codes "null") refl
+primitive_is_text m (Boolean true) b = text_tested (codes "true") refl
+primitive_is_text m (Boolean false) b = text_tested (codes "false") refl
+primitive_is_text m (Number n) b = text_of_number_is_text n
+primitive_is_text m (String t) b = b
+primitive_is_text m (Object n) b = text_tested [] refl
+
+primitive_is_key : (m : ℕ) (p : Value) → IsValueBelow m p → IsKey (key_of_primitive p)
+primitive_is_key m Undefined b = key_of_text_is_key (codes "undefined") (primitive_is_text m Undefined b)
+primitive_is_key m Null b = key_of_text_is_key (codes "null") (primitive_is_text m Null b)
+primitive_is_key m (Boolean c) b = key_of_text_is_key (text_of_primitive (Boolean c)) (primitive_is_text m (Boolean c) b)
+primitive_is_key m (Number n) b = key_of_number_is_key n b
+primitive_is_key m (String t) b = key_of_text_is_key t b
+primitive_is_key m (Object n) b = key_of_text_is_key [] (primitive_is_text m (Object n) b)
+
+number_or_raise_below : (m : ℕ) (n : Option ℤ) (k : ℤ → Act) → IfSome n IsNumber → Later m ANumber k → IsActBelow m (number_or_raise n k)
+number_or_raise_below m None k b h = raise_below m NumberOutOfRange
+number_or_raise_below m (Some n) k b h = h m (le_refl m) n b
+
+pub to_number_below : (m : ℕ) (v : Value) (k : ℤ → Act) → IsValueBelow m v → Later m ANumber k → IsActBelow m (to_number v k)
 unfolding to_number
-to_number_below m v k b h = to_primitive_below m NumberHint v _ b (λ n l p c. number_or_raise_below n (number_of_primitive p) k (later_more m n Any k l h))
+to_number_below m v k b h = to_primitive_below m NumberHint v _ b (λ n l p c. number_or_raise_below n (number_of_primitive p) k (primitive_is_number n p c) (later_more m n ANumber k l h))
 
-pub to_string_below : (m : ℕ) (v : Value) (k : Text → Act) → IsValueBelow m v → Later m Any k → IsActBelow m (to_string v k)
+pub to_string_below : (m : ℕ) (v : Value) (k : Text → Act) → IsValueBelow m v → Later m AText k → IsActBelow m (to_string v k)
 unfolding to_string
-to_string_below m v k b h = to_primitive_below m StringHint v _ b (λ n l p c. h n l (text_of_primitive p) tt)
+to_string_below m v k b h = to_primitive_below m StringHint v _ b (λ n l p c. h n l (text_of_primitive p) (primitive_is_text n p c))
+
+pub to_property_key_below : (m : ℕ) (v : Value) (k : Key → Act) → IsValueBelow m v → Later m AKey k → IsActBelow m (to_property_key v k)
+unfolding to_property_key
+to_property_key_below m v k b h = to_primitive_below m StringHint v _ b (λ n l p c. h n l (key_of_primitive p) (primitive_is_key n p c))
+
+-- ---- what built-ins take for a primitive
+
+primitive_expected_below : (m : ℕ) (v : Value) (k : Value → Act) → IsValueBelow m v → Later m IsValueBelow k → IsActBelow m (primitive_expected v k)
+primitive_expected_below m (Object o) k b h = raise_below m PrimitiveExpected
+primitive_expected_below m Undefined k b h = h m (le_refl m) Undefined b
+primitive_expected_below m Null k b h = h m (le_refl m) Null b
+primitive_expected_below m (Boolean x) k b h = h m (le_refl m) (Boolean x) b
+primitive_expected_below m (Number x) k b h = h m (le_refl m) (Number x) b
+primitive_expected_below m (String x) k b h = h m (le_refl m) (String x) b
+
+pub number_expected_below : (m : ℕ) (v : Value) (k : ℤ → Act) → IsValueBelow m v → Later m ANumber k → IsActBelow m (number_expected v k)
+unfolding number_expected
+number_expected_below m v k b h = primitive_expected_below m v _ b (λ n l p c. number_or_raise_below n (number_of_primitive p) k (primitive_is_number n p c) (later_more m n ANumber k l h))
+
+pub text_expected_below : (m : ℕ) (v : Value) (k : Text → Act) → IsValueBelow m v → Later m AText k → IsActBelow m (text_expected v k)
+unfolding text_expected
+text_expected_below m v k b h = primitive_expected_below m v _ b (λ n l p c. h n l (text_of_primitive p) (primitive_is_text n p c))
+
+pub key_expected_below : (m : ℕ) (v : Value) (k : Key → Act) → IsValueBelow m v → Later m AKey k → IsActBelow m (key_expected v k)
+unfolding key_expected
+key_expected_below m v k b h = primitive_expected_below m v _ b (λ n l p c. h n l (key_of_primitive p) (primitive_is_key n p c))

@@ -1,9 +1,10 @@
--- A method on an object that speaks only of things below m leaves one that does.
-use Rattle.std.proofs.Common.{ℕ, suc, Bool, true, false, cond, not, ◌&&◌, ◌||◌, List, [], ◌∷◌, nat_lt, nat_le, nat_eq, ◌==◌, pos, negsuc, Option, Some, None, IfSome, option_map, unwrap_or}
+-- A method on an object that holds only values of the profile and of things below m leaves one that does.
+use Rattle.std.proofs.Common.{ℕ, suc, arith, Bool, true, false, cond, not, ◌&&◌, ◌||◌, List, [], ◌∷◌, nat_lt, nat_le, nat_eq, ◌==◌, pos, negsuc, Option, Some, None, IfSome, option_map, unwrap_or}
 use Rattle.std.specs.Option.{option_map_or}
 use Rattle.js_value.specs.NumberText.{text_of_number}
 use Rattle.js_value.specs.Value.{Value, Undefined, Null, Boolean, Number, String, Object, Text, same_text, Key, Index, Named, Numeral}
 use Rattle.js_value.specs.Store.{Store, Property, Content, Data, Accessor, Class, Array, ObjectRecord, own_property, with_property, without_property, with_string, with_length, is_length_of, put_name, length_name, length_entry, strings}
+use Rattle.js_value.specs.Order.{FitsLength, IsOrderly}
 use Rattle.js_value.specs.WellFormed.{IsValueBelow, IfValueBelow, IsContentBelow, ArePropertiesBelow, IsClassBelow, IsObjectBelow}
 use Rattle.js_value.proofs.Below.{put_index_properties, put_name_properties, removed_properties, found_properties, append_properties}
 use Rattle.es_model.specs.InternalMethods.{PropertyDescriptor, Outcome, refused, unchanged, wrote, validate_and_apply_property_descriptor, ordinary_define_own_property, new_property, new_content, applied, applied_content, forbidden, has_fields, is_accessor_descriptor, is_data_descriptor, length_of_value, lowest_length, elements_below, lowered, set_length_to, length_set_by, array_set_length, raised, array_define_own_property, define_by_class, is_refused, define_own_property, ordinary_delete, delete_own_property, prevent_extensions, fixed_content, all_fixed, fixed_class, freeze, set_prototype_of, same_prototype, on_chain, longest, Method, DefineOwnProperty, Delete, PreventExtensions, SetPrototypeOf, Freeze, apply_method}
@@ -55,18 +56,19 @@ module _ (m : ℕ) where
   with_property_below o (Named t) p c h = string_below o t p c h
   with_property_below o (Numeral z) p c h = string_below o (text_of_number z) p c h
 
-  strings_below : (o : ObjectRecord) → IsObjectBelow m o → ArePropertiesBelow m (strings o)
-  strings_below o h = append_properties m (length_entry o.class) o.named (by_class o.class) h.named
+  -- an array's length is a Number, since it has 32 bits
+  strings_below : (o : ObjectRecord) → IsOrderly o → IsObjectBelow m o → ArePropertiesBelow m (strings o)
+  strings_below o r h = append_properties m (length_entry o.class) o.named (by_class o.class r.length) h.named
     where
-      by_class : (c : Class) → ArePropertiesBelow m (length_entry c)
-      by_class (Array n w) = (tt, tt)
-      by_class c = tt
+      by_class : (c : Class) → FitsLength c o.indexed → ArePropertiesBelow m (length_entry c)
+      by_class (Array n w) l = (record { bound = omega (arith, l.0) }, tt)
+      by_class c l = tt
 
-  pub own_property_below : (o : ObjectRecord) (key : Key) → IsObjectBelow m o → IfSome (own_property o key) (λ p. IsContentBelow m p.content)
+  pub own_property_below : (o : ObjectRecord) (key : Key) → IsOrderly o → IsObjectBelow m o → IfSome (own_property o key) (λ p. IsContentBelow m p.content)
   unfolding own_property
-  own_property_below o (Index i) h = found_properties m (nat_eq i) o.indexed h.indexed
-  own_property_below o (Named t) h = found_properties m (same_text t) (strings o) (strings_below o h)
-  own_property_below o (Numeral z) h = found_properties m (same_text (text_of_number z)) (strings o) (strings_below o h)
+  own_property_below o (Index i) r h = found_properties m (nat_eq i) o.indexed h.indexed
+  own_property_below o (Named t) r h = found_properties m (same_text t) (strings o) (strings_below o r h)
+  own_property_below o (Numeral z) r h = found_properties m (same_text (text_of_number z)) (strings o) (strings_below o r h)
 
   validated_below : (o : ObjectRecord) (key : Key) (d : PropertyDescriptor) (current : Option Property) → IsObjectBelow m o → IsDescriptorBelow m d → IfSome current (λ p. IsContentBelow m p.content) → Leaves (validate_and_apply_property_descriptor o key d current)
   unfolding validate_and_apply_property_descriptor
@@ -75,8 +77,8 @@ module _ (m : ℕ) where
       cond_leaves (has_fields d) (cond (not current.configurable && forbidden current d) refused (wrote (with_property o key (applied current d)))) unchanged
       (cond_leaves (not current.configurable && forbidden current d) refused (wrote (with_property o key (applied current d))) tt (with_property_below o key (applied current d) (applied_below current.content d c b) h)) tt
 
-  ordinary_below : (o : ObjectRecord) (key : Key) (d : PropertyDescriptor) → IsObjectBelow m o → IsDescriptorBelow m d → Leaves (ordinary_define_own_property o key d)
-  ordinary_below o key d h b = validated_below o key d (own_property o key) h b (own_property_below o key h)
+  ordinary_below : (o : ObjectRecord) (key : Key) (d : PropertyDescriptor) → IsOrderly o → IsObjectBelow m o → IsDescriptorBelow m d → Leaves (ordinary_define_own_property o key d)
+  ordinary_below o key d r h b = validated_below o key d (own_property o key) h b (own_property_below o key r h)
 
   -- ---- arrays
 
@@ -95,18 +97,18 @@ module _ (m : ℕ) where
       by_test true = tt
       by_test false = record { class = tt; prototype = h.prototype; indexed = elements_properties reached o.indexed h.indexed; named = h.named }
 
-  set_length_below : (o : ObjectRecord) (old : ℕ) (w : Bool) (d : PropertyDescriptor) (new : ℕ) → IsObjectBelow m o → IsDescriptorBelow m d → Leaves (set_length_to o old w d new)
-  set_length_below o old w d new h b =
-      cond_leaves (nat_le old new) (ordinary_define_own_property o (Named length_name) d) _ (ordinary_below o (Named length_name) d h b)
+  set_length_below : (o : ObjectRecord) (old : ℕ) (w : Bool) (d : PropertyDescriptor) (new : ℕ) → IsOrderly o → IsObjectBelow m o → IsDescriptorBelow m d → Leaves (set_length_to o old w d new)
+  set_length_below o old w d new r h b =
+      cond_leaves (nat_le old new) (ordinary_define_own_property o (Named length_name) d) _ (ordinary_below o (Named length_name) d r h b)
       (cond_leaves (w && (ordinary_define_own_property o (Named length_name) d).answer) (lowered o old new (lowest_length new o.indexed) (unwrap_or d.writable true)) refused (lowered_below o old new (lowest_length new o.indexed) (unwrap_or d.writable true) h) tt)
 
-  length_set_below : (o : ObjectRecord) (old : ℕ) (w : Bool) (d : PropertyDescriptor) (v : Option Value) → IsObjectBelow m o → IsDescriptorBelow m d → Leaves (length_set_by o old w d v)
-  length_set_below o old w d None h b = ordinary_below o (Named length_name) d h b
-  length_set_below o old w d (Some v) h b = by_length (length_of_value v)
+  length_set_below : (o : ObjectRecord) (old : ℕ) (w : Bool) (d : PropertyDescriptor) (v : Option Value) → IsOrderly o → IsObjectBelow m o → IsDescriptorBelow m d → Leaves (length_set_by o old w d v)
+  length_set_below o old w d None r h b = ordinary_below o (Named length_name) d r h b
+  length_set_below o old w d (Some v) r h b = by_length (length_of_value v)
     where
       by_length : (n : Option ℕ) → Leaves (option_map_or (set_length_to o old w d) n refused)
       by_length None = tt
-      by_length (Some n) = set_length_below o old w d n h b
+      by_length (Some n) = set_length_below o old w d n r h b
 
   raised_below : (i : ℕ) (c : Class) (o : ObjectRecord) → IsObjectBelow m o → IsObjectBelow m (raised i c o)
   raised_below i (Array n w) o h = by_test (nat_lt i n)
@@ -120,16 +122,16 @@ module _ (m : ℕ) where
   mapped_below f None g h = tt
   mapped_below f (Some x) g h = g x h
 
-  array_below : (o : ObjectRecord) (n : ℕ) (w : Bool) (key : Key) (d : PropertyDescriptor) → IsObjectBelow m o → IsDescriptorBelow m d → Leaves (array_define_own_property o n w key d)
-  array_below o n w (Index i) d h b =
+  array_below : (o : ObjectRecord) (n : ℕ) (w : Bool) (key : Key) (d : PropertyDescriptor) → IsOrderly o → IsObjectBelow m o → IsDescriptorBelow m d → Leaves (array_define_own_property o n w key d)
+  array_below o n w (Index i) d r h b =
       cond_leaves (nat_le n i && not w) refused _ tt
-      (mapped_below (raised i o.class) (ordinary_define_own_property o (Index i) d).written (raised_below i o.class) (ordinary_below o (Index i) d h b))
-  array_below o n w (Named t) d h b = cond_leaves (same_text t length_name) (array_set_length o n w d) (ordinary_define_own_property o (Named t) d) (length_set_below o n w d d.value h b) (ordinary_below o (Named t) d h b)
-  array_below o n w (Numeral z) d h b = cond_leaves (same_text (text_of_number z) length_name) (array_set_length o n w d) (ordinary_define_own_property o (Numeral z) d) (length_set_below o n w d d.value h b) (ordinary_below o (Numeral z) d h b)
+      (mapped_below (raised i o.class) (ordinary_define_own_property o (Index i) d).written (raised_below i o.class) (ordinary_below o (Index i) d r h b))
+  array_below o n w (Named t) d r h b = cond_leaves (same_text t length_name) (array_set_length o n w d) (ordinary_define_own_property o (Named t) d) (length_set_below o n w d d.value r h b) (ordinary_below o (Named t) d r h b)
+  array_below o n w (Numeral z) d r h b = cond_leaves (same_text (text_of_number z) length_name) (array_set_length o n w d) (ordinary_define_own_property o (Numeral z) d) (length_set_below o n w d d.value r h b) (ordinary_below o (Numeral z) d r h b)
 
-  class_define_below : (c : Class) (o : ObjectRecord) (key : Key) (d : PropertyDescriptor) → IsObjectBelow m o → IsDescriptorBelow m d → Leaves (define_by_class c o key d)
-  class_define_below (Array n w) o key d h b = array_below o n w key d h b
-  class_define_below c o key d h b = ordinary_below o key d h b
+  class_define_below : (c : Class) (o : ObjectRecord) (key : Key) (d : PropertyDescriptor) → IsOrderly o → IsObjectBelow m o → IsDescriptorBelow m d → Leaves (define_by_class c o key d)
+  class_define_below (Array n w) o key d r h b = array_below o n w key d r h b
+  class_define_below c o key d r h b = ordinary_below o key d r h b
 
   -- ---- the methods
 
@@ -155,12 +157,12 @@ module _ (m : ℕ) where
   delete_below o key None h = tt
   delete_below o key (Some p) h = cond_leaves p.configurable (wrote (without_property o key)) refused (without_below o key h) tt
 
-  pub method_below : (method : Method) (s : Store) (n : ℕ) (o : ObjectRecord) → IsMethodBelow m method → IsObjectBelow m o → Leaves (apply_method method s n o)
+  pub method_below : (method : Method) (s : Store) (n : ℕ) (o : ObjectRecord) → IsMethodBelow m method → IsOrderly o → IsObjectBelow m o → Leaves (apply_method method s n o)
   unfolding apply_method define_own_property delete_own_property prevent_extensions freeze set_prototype_of
-  method_below (DefineOwnProperty key d) s n o b h = cond_leaves (is_refused key d) refused (define_by_class o.class o key d) tt (class_define_below o.class o key d h b.1)
-  method_below (Delete key) s n o b h = delete_below o key (own_property o key) h
-  method_below PreventExtensions s n o b h = record { class = h.class; prototype = h.prototype; indexed = h.indexed; named = h.named }
-  method_below (SetPrototypeOf v) s n o b h =
+  method_below (DefineOwnProperty key d) s n o b r h = cond_leaves (is_refused key d) refused (define_by_class o.class o key d) tt (class_define_below o.class o key d r h b.1)
+  method_below (Delete key) s n o b r h = delete_below o key (own_property o key) h
+  method_below PreventExtensions s n o b r h = record { class = h.class; prototype = h.prototype; indexed = h.indexed; named = h.named }
+  method_below (SetPrototypeOf v) s n o b r h =
       cond_leaves (same_prototype v o.prototype) unchanged _ tt
       (cond_leaves (not o.extensible || on_chain longest s n v) refused (wrote (record o { prototype = v })) tt (record { class = h.class; prototype = b; indexed = h.indexed; named = h.named }))
-  method_below Freeze s n o b h = record { class = fixed_class_below o.class h.class; prototype = h.prototype; indexed = fixed_properties o.indexed h.indexed; named = fixed_properties o.named h.named }
+  method_below Freeze s n o b r h = record { class = fixed_class_below o.class h.class; prototype = h.prototype; indexed = fixed_properties o.indexed h.indexed; named = fixed_properties o.named h.named }

@@ -88,6 +88,10 @@ across : equal (Number (pos 12)) (String (codes "12")) ∷ equal (String (codes 
 unfolding computing methods equal
 across = refl
 
+across_thrown : thing_after (runs (is_loosely_equal (String (codes "x")) (Number (pos 1)) (λ b. Give (Boolean b))) []) 13 ≡ Some (AnObject (error_record 3 (text_of_message NumberOutOfRange)))
+unfolding computing
+across_thrown = refl
+
 -- booleans become numbers, objects primitives
 converted : equal (Boolean true) (Number (pos 1)) ∷ equal (Boolean true) (Boolean false) ∷ equal (Object 13) (Number (pos 7)) ∷ equal (String (codes "7")) (Object 13) ∷ equal (Object 13) (Object 13) ∷ equal (Object 13) (Object 14) ∷ equal (Boolean true) (Object 13) ∷ []
     ≡ Gave (Boolean true) ∷ Gave (Boolean false) ∷ Gave (Boolean true) ∷ Gave (Boolean true) ∷ Gave (Boolean true) ∷ Gave (Boolean false) ∷ Gave (Boolean false) ∷ []

@@ -1,11 +1,12 @@
--- Promise operations and jobs speak only of things that stand, where what they are handed does.
-use Rattle.std.proofs.Common.{◌≡◌, ℕ, ◌<◌, ◌≤◌, Bool, List, [], ◌∷◌, arith, refl, Option, Some, None, le_trans, codes}
+-- Promise operations and jobs hold only values of the profile and of things that stand, where what they are handed does.
+use Rattle.std.proofs.Common.{◌≡◌, ℕ, ◌<◌, ◌≤◌, Bool, List, [], ◌∷◌, arith, refl, Option, Some, None, le_trans, codes, lit≤}
 use Rattle.js_value.specs.Value.{Value, Undefined, Null, Boolean, Number, String, Object, Named}
-use Rattle.js_value.specs.Store.{Reaction, Pending, Fulfilled, Rejected, Class, Ordinary, Array, ScriptFunction, BuiltInFunction, ResolveFunction, RejectFunction, Error, Promise}
+use Rattle.js_value.specs.Store.{length_name, Reaction, Pending, Fulfilled, Rejected, Class, Ordinary, Array, ScriptFunction, BuiltInFunction, ResolveFunction, RejectFunction, Error, Promise}
 use Rattle.js_value.specs.Literal.{digits_number}
 use Rattle.js_value.specs.Order.{IsOrderly}
 use Rattle.js_value.specs.WellFormed.{IsValueBelow, IsClassBelow, AreReactionsBelow, IsObjectBelow}
 use Rattle.js_value.proofs.Below.{value_more, reactions_more}
+use Rattle.js_value.proofs.Profile.{text_tested}
 use Rattle.es_model.specs.Equality.{same_value}
 use Rattle.es_model.specs.Messages.{ResolvedWithItself}
 use Rattle.es_model.specs.State.{Job, FulfilJob, RejectJob, ThenableJob}
@@ -15,7 +16,8 @@ use Rattle.es_model.specs.Errors.{make_error}
 use Rattle.es_model.specs.PropertyReads.{get}
 use Rattle.es_model.specs.Jobs.{enqueue_fulfil_jobs, enqueue_reject_jobs, fulfilled, fulfil_promise, rejected, reject_promise, resolve_with_then, resolve_by_value, resolve_promise, resolving_function, create_resolving_functions, first_call, call_resolve_function, call_reject_function, make_promise, handler_of, then_by_class, perform_promise_then, promise_then, settle_derived, handled, thenable_called, run_job, run_dequeued, run_first_job}
 use Rattle.es_model.specs.Laws.{IsJobBelow, AreReactionAnswersBelow, IsJobAnswerBelow, IsCompletionBelow, IsActBelow}
-use Rattle.es_model.proofs.ActsBelow.{Later, IsNumberBelow, later_more, act_more, completed_below, cond_below, make_error_below, is_callable_below, get_below}
+use Rattle.es_model.specs.Operations.{Later, AThing}
+use Rattle.es_model.proofs.ActsBelow.{later_more, act_more, completed_below, cond_below, make_error_below, is_callable_below, get_below}
 
 -- ---- settling
 
@@ -60,8 +62,8 @@ by_value_below m p (Object o) k q b h =
 by_value_below m p Undefined k q b h = fulfil_below m p Undefined k tt h
 by_value_below m p Null k q b h = fulfil_below m p Null k tt h
 by_value_below m p (Boolean x) k q b h = fulfil_below m p (Boolean x) k tt h
-by_value_below m p (Number x) k q b h = fulfil_below m p (Number x) k tt h
-by_value_below m p (String x) k q b h = fulfil_below m p (String x) k tt h
+by_value_below m p (Number x) k q b h = fulfil_below m p (Number x) k b h
+by_value_below m p (String x) k q b h = fulfil_below m p (String x) k b h
 
 pub resolve_below : (m p : ℕ) (v : Value) (k : Act) → p < m → IsValueBelow m v → IsActBelow m k → IsActBelow m (resolve_promise p v k)
 unfolding resolve_promise
@@ -75,10 +77,10 @@ resolve_below m p v k q b h =
 function_orderly : (c : Class) (prototype : ℕ) → ((n : ℕ) (w : Bool) → c ≡ Array n w → ⊥) → IsOrderly (resolving_function c prototype)
 unfolding digits_number
 function_orderly (Array n w) prototype never = absurd (never n w refl)
-function_orderly c prototype never = record { indices = tt; range = tt; length = tt; names = (refl, (refl, tt)); no_index = (refl, (refl, tt)); no_length = tt }
+function_orderly c prototype never = record { indices = tt; range = tt; length = tt; names = (record { text = text_tested length_name refl; no_index = refl }, (record { text = text_tested (codes "name") refl; no_index = refl }, tt)); distinct = (refl, (refl, tt)); no_length = tt }
 
 function_below : (m : ℕ) (c : Class) (prototype : ℕ) → prototype < m → IsClassBelow m c → IsObjectBelow m (resolving_function c prototype)
-function_below m c prototype l b = record { class = b; prototype = l; indexed = tt; named = (tt, (tt, tt)) }
+function_below m c prototype l b = record { class = b; prototype = l; indexed = tt; named = (record { bound = lit≤ tt }, (text_tested [] refl, tt)) }
 
 pub create_functions_below : (m p : ℕ) (k : (mark resolve reject : ℕ) → Act) → p < m → ((n : ℕ) → m ≤ n → (a b c : ℕ) → a < n → b < n → c < n → IsActBelow n (k a b c)) → IsActBelow m (create_resolving_functions p k)
 unfolding create_resolving_functions
@@ -110,10 +112,10 @@ call_reject_below m p mark v q b = first_call_below m mark (reject_promise p v (
 
 -- ---- then
 
-pub make_promise_below : (m : ℕ) (k : ℕ → Act) → Later m IsNumberBelow k → IsActBelow m (make_promise k)
+pub make_promise_below : (m : ℕ) (k : ℕ → Act) → Later m AThing k → IsActBelow m (make_promise k)
 unfolding make_promise
 make_promise_below m k h =
-    (tt, λ n l p b. ((record { class = (tt, tt); prototype = b; indexed = tt; named = tt }, record { indices = tt; range = tt; length = tt; names = tt; no_index = tt; no_length = tt }), later_more m n IsNumberBelow k l h))
+    (tt, λ n l p b. ((record { class = (tt, tt); prototype = b; indexed = tt; named = tt }, record { indices = tt; range = tt; length = tt; names = tt; distinct = tt; no_length = tt }), later_more m n AThing k l h))
 
 handler_below : (m : ℕ) (v : Value) (k : Value → Act) → IsValueBelow m v → Later m IsValueBelow k → IsActBelow m (handler_of v k)
 handler_below m v k b h = is_callable_below m v _ (λ n l callable u. cond_below n callable (k v) (k Undefined) (h n l v (value_more m n l v b)) (h n l Undefined tt))
@@ -136,7 +138,7 @@ perform_then_below m p f r derived k a b d h =
     handler_below m f (λ x. handler_of r (λ y. Ask (TheObject p) (λ o. then_by_class p o.class x y derived k))) a (λ n l x c. handler_below n r (λ y. Ask (TheObject p) (λ o. then_by_class p o.class x y derived k)) (value_more m n l r b) (λ i j y e.
     (tt, λ u v o g. by_class_below u p o.class x y derived k g.0.class (value_more n u (le_trans j v) x c) (value_more i u v y e) (omega arith) (act_more m u (le_trans l (le_trans j v)) k h))))
 
-pub promise_then_below : (m p : ℕ) (f r : Value) (k : ℕ → Act) → IsValueBelow m f → IsValueBelow m r → Later m IsNumberBelow k → IsActBelow m (promise_then p f r k)
+pub promise_then_below : (m p : ℕ) (f r : Value) (k : ℕ → Act) → IsValueBelow m f → IsValueBelow m r → Later m AThing k → IsActBelow m (promise_then p f r k)
 unfolding promise_then
 promise_then_below m p f r k a b h = make_promise_below m _ (λ n l derived d. perform_then_below n p f r derived (k derived) (value_more m n l f a) (value_more m n l r b) d (h n l derived d))
 
@@ -150,8 +152,8 @@ handled_below : (m : ℕ) (f : Value) (derived : ℕ) (v : Value) (c : Completio
 handled_below m Undefined derived v c a d b e = derived_below m derived c d e
 handled_below m Null derived v c a d b e = (tt, tt, (b, tt), tt, λ n l x y. derived_below n derived x (omega arith) y)
 handled_below m (Boolean w) derived v c a d b e = (tt, tt, (b, tt), tt, λ n l x y. derived_below n derived x (omega arith) y)
-handled_below m (Number w) derived v c a d b e = (tt, tt, (b, tt), tt, λ n l x y. derived_below n derived x (omega arith) y)
-handled_below m (String w) derived v c a d b e = (tt, tt, (b, tt), tt, λ n l x y. derived_below n derived x (omega arith) y)
+handled_below m (Number w) derived v c a d b e = (a, tt, (b, tt), tt, λ n l x y. derived_below n derived x (omega arith) y)
+handled_below m (String w) derived v c a d b e = (a, tt, (b, tt), tt, λ n l x y. derived_below n derived x (omega arith) y)
 handled_below m (Object w) derived v c a d b e = (a, tt, (b, tt), tt, λ n l x y. derived_below n derived x (omega arith) y)
 
 thenable_below : (m p mark : ℕ) (c : Completion) → p < m → IsCompletionBelow m c → IsActBelow m (thenable_called p mark c)

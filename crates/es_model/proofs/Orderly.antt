@@ -2,11 +2,11 @@
 use Rattle.std.proofs.Common.{◌≡◌, ℕ, suc, ◌<◌, ◌≤◌, Bool, true, false, cond, not, ◌&&◌, ◌||◌, nat_eq, List, [], ◌∷◌, ◌++◌, nat_lt, nat_le, ◌==◌, ℤ, pos, negsuc, arith, refl, sym, ap, ◌∙◌, subst, Option, Some, None, IfSome, option_map, unwrap_or}
 use Rattle.std.specs.Option.{option_map_or}
 use Rattle.std.proofs.lemmas.Bool.Decides.{nat_tests}
-use Rattle.js_value.specs.NumberText.{index_of_text, text_of_number}
+use Rattle.js_value.specs.NumberText.{text_of_number}
 use Rattle.js_value.specs.Value.{Value, Undefined, Null, Boolean, Number, String, Object, Text, same_text, Key, Index, Named, Numeral}
 use Rattle.js_value.specs.Store.{Store, Property, Data, Class, Array, ObjectRecord, own_property, with_property, without_property, with_string, with_length, is_length_of, put_name, put_index, removed, found, length_name, length_property, length_entry, strings}
-use Rattle.js_value.specs.Order.{IsKey, AllAbove, AllBelow, Ascending, Distinct, NoIndexText, NoLength, IsOrderly}
-use Rattle.js_value.proofs.Entries.{put_name_distinct, put_name_no_index, found-put_name, removed_none, removed_distinct, removed_no_index, all_below_more, put_index_below, put_index_ascending, removed_below, removed_ascending, same_text_sym}
+use Rattle.js_value.specs.Order.{IsName, IsKey, AllAbove, AllBelow, Ascending, Distinct, AreNames, NoLength, IsOrderly}
+use Rattle.js_value.proofs.Entries.{put_name_distinct, put_name_names, found-put_name, removed_none, removed_distinct, removed_names, all_below_more, put_index_below, put_index_ascending, removed_below, removed_ascending, same_text_sym}
 use Rattle.es_model.specs.Equality.{same_bool}
 use Rattle.es_model.specs.InternalMethods.{PropertyDescriptor, Outcome, refused, unchanged, wrote, validate_and_apply_property_descriptor, ordinary_define_own_property, new_property, new_content, applied, differs, forbidden_content, forbidden, has_fields, is_accessor_descriptor, is_data_descriptor, lowest_length, elements_below, lowered, set_length_to, length_set_by, array_set_length, raised, array_define_own_property, define_by_class, is_refused, define_own_property, ordinary_delete, delete_own_property, prevent_extensions, fixed_property, all_fixed, fixed_class, freeze, set_prototype_of, same_prototype, on_chain, longest, Method, DefineOwnProperty, Delete, PreventExtensions, SetPrototypeOf, Freeze, apply_method}
 
@@ -44,8 +44,8 @@ module _ (prototype : Option ℕ) (extensible : Bool) (is : List (ℕ × Propert
         indices = put_index_ascending i p is h.indices;
         range = put_index_below 4294967295 i p is l h.range;
         length = (h.length.0, put_index_below n i p is (grind (arith, nat_tests)) h.length.1);
+        distinct = h.distinct;
         names = h.names;
-        no_index = h.no_index;
         no_length = h.no_length;
       }
       by_test false e =
@@ -54,39 +54,39 @@ module _ (prototype : Option ℕ) (extensible : Bool) (is : List (ℕ × Propert
             indices = put_index_ascending i p is h.indices;
             range = put_index_below 4294967295 i p is l h.range;
             length = (omega arith, put_index_below (suc i) i p is (omega arith) (all_below_more n (suc i) is (omega arith) h.length.1));
+            distinct = h.distinct;
             names = h.names;
-            no_index = h.no_index;
             no_length = h.no_length;
           }
   raised_orderly c i p l h = record {
     indices = put_index_ascending i p is h.indices;
     range = put_index_below 4294967295 i p is l h.range;
     length = tt;
+    distinct = h.distinct;
     names = h.names;
-    no_index = h.no_index;
     no_length = tt;
   }
 
   -- a string that is no array's `length`
-  named_orderly : (c : Class) (t : Text) (p : Property) → index_of_text t ≡ None → is_length_of c t ≡ false → IsOrderly (this c) → IsOrderly (of_parts c prototype extensible is (put_name t p ns))
+  named_orderly : (c : Class) (t : Text) (p : Property) → IsName t → is_length_of c t ≡ false → IsOrderly (this c) → IsOrderly (of_parts c prototype extensible is (put_name t p ns))
   named_orderly (Array n w) t p k e h = record {
     indices = h.indices;
     range = h.range;
     length = h.length;
-    names = put_name_distinct t p ns h.names;
-    no_index = put_name_no_index t p ns k h.no_index;
+    distinct = put_name_distinct t p ns h.distinct;
+    names = put_name_names t p ns k h.names;
     no_length = found-put_name length_name t p ns ∙ ap (λ b. cond b (Some p) (found (same_text length_name) ns)) (same_text_sym length_name t ∙ e) ∙ h.no_length;
   }
   named_orderly c t p k e h = record {
     indices = h.indices;
     range = h.range;
     length = tt;
-    names = put_name_distinct t p ns h.names;
-    no_index = put_name_no_index t p ns k h.no_index;
+    distinct = put_name_distinct t p ns h.distinct;
+    names = put_name_names t p ns k h.names;
     no_length = tt;
   }
 
-  string_orderly : (c : Class) (t : Text) (p : Property) → index_of_text t ≡ None → is_length_of c t ≡ false → IsOrderly (this c) → IsOrderly (with_string (this c) t p)
+  string_orderly : (c : Class) (t : Text) (p : Property) → IsName t → is_length_of c t ≡ false → IsOrderly (this c) → IsOrderly (with_string (this c) t p)
   string_orderly c t p k e h =
       subst (λ b. IsOrderly (cond b (with_length (this c) p.content) (of_parts c prototype extensible is (put_name t p ns)))) (sym e) (named_orderly c t p k e h)
 
@@ -98,8 +98,8 @@ module _ (prototype : Option ℕ) (extensible : Bool) (is : List (ℕ × Propert
     indices = h.indices;
     range = h.range;
     length = (l, b);
+    distinct = h.distinct;
     names = h.names;
-    no_index = h.no_index;
     no_length = h.no_length;
   }
 
@@ -183,8 +183,8 @@ module _ (prototype : Option ℕ) (extensible : Bool) (is : List (ℕ × Propert
     indices = elements_ascending reached is h.indices;
     range = elements_range reached 4294967295 is h.range;
     length = (l, elements_all_below reached is);
+    distinct = h.distinct;
     names = h.names;
-    no_index = h.no_index;
     no_length = h.no_length;
   }
 
@@ -230,11 +230,11 @@ module _ (prototype : Option ℕ) (extensible : Bool) (is : List (ℕ × Propert
       mapped (raised i c) (ordinary_define_own_property (this c) (Index i) d).written
       (validated (λ o. IsOrderly (raised i c o)) (this c) (Index i) d (own_property (this c) (Index i)) (λ p. raised_orderly c i p l h))
 
-  name_defined : (c : Class) (t : Text) (d : PropertyDescriptor) → index_of_text t ≡ None → is_length_of c t ≡ false → IsOrderly (this c) → Written IsOrderly (ordinary_define_own_property (this c) (Named t) d)
+  name_defined : (c : Class) (t : Text) (d : PropertyDescriptor) → IsName t → is_length_of c t ≡ false → IsOrderly (this c) → Written IsOrderly (ordinary_define_own_property (this c) (Named t) d)
   unfolding with_property
   name_defined c t d k e h = validated IsOrderly (this c) (Named t) d (own_property (this c) (Named t)) (λ p. string_orderly c t p k e h)
 
-  numeral_defined : (c : Class) (z : ℤ) (d : PropertyDescriptor) → index_of_text (text_of_number z) ≡ None → is_length_of c (text_of_number z) ≡ false → IsOrderly (this c) → Written IsOrderly (ordinary_define_own_property (this c) (Numeral z) d)
+  numeral_defined : (c : Class) (z : ℤ) (d : PropertyDescriptor) → IsName (text_of_number z) → is_length_of c (text_of_number z) ≡ false → IsOrderly (this c) → Written IsOrderly (ordinary_define_own_property (this c) (Numeral z) d)
   unfolding with_property
   numeral_defined c z d k e h = validated IsOrderly (this c) (Numeral z) d (own_property (this c) (Numeral z)) (λ p. string_orderly c (text_of_number z) p k e h)
 
@@ -290,25 +290,25 @@ module _ (prototype : Option ℕ) (extensible : Bool) (is : List (ℕ × Propert
   fixed_distinct [] d = tt
   fixed_distinct (e ∷ es) d = (fixed_none e.0 es d.0, fixed_distinct es d.1)
 
-  fixed_no_index : (es : List (Text × Property)) → NoIndexText es → NoIndexText (all_fixed es)
-  fixed_no_index [] d = tt
-  fixed_no_index (e ∷ es) d = (d.0, fixed_no_index es d.1)
+  fixed_names : (es : List (Text × Property)) → AreNames es → AreNames (all_fixed es)
+  fixed_names [] d = tt
+  fixed_names (e ∷ es) d = (d.0, fixed_names es d.1)
 
   frozen_orderly : (c : Class) → IsOrderly (this c) → IsOrderly (of_parts (fixed_class c) prototype false (all_fixed is) (all_fixed ns))
   frozen_orderly (Array n w) h = record {
     indices = fixed_ascending is h.indices;
     range = fixed_below 4294967295 is h.range;
     length = (h.length.0, fixed_below n is h.length.1);
-    names = fixed_distinct ns h.names;
-    no_index = fixed_no_index ns h.no_index;
+    distinct = fixed_distinct ns h.distinct;
+    names = fixed_names ns h.names;
     no_length = fixed_none length_name ns h.no_length;
   }
   frozen_orderly c h = record {
     indices = fixed_ascending is h.indices;
     range = fixed_below 4294967295 is h.range;
     length = tt;
-    names = fixed_distinct ns h.names;
-    no_index = fixed_no_index ns h.no_index;
+    distinct = fixed_distinct ns h.distinct;
+    names = fixed_names ns h.names;
     no_length = tt;
   }
 
@@ -319,16 +319,16 @@ module _ (prototype : Option ℕ) (extensible : Bool) (is : List (ℕ × Propert
     indices = removed_ascending test is h.indices;
     range = removed_below 4294967295 test is h.range;
     length = (h.length.0, removed_below n test is h.length.1);
+    distinct = h.distinct;
     names = h.names;
-    no_index = h.no_index;
     no_length = h.no_length;
   }
   unindexed_orderly c test h = record {
     indices = removed_ascending test is h.indices;
     range = removed_below 4294967295 test is h.range;
     length = tt;
+    distinct = h.distinct;
     names = h.names;
-    no_index = h.no_index;
     no_length = tt;
   }
 
@@ -337,16 +337,16 @@ module _ (prototype : Option ℕ) (extensible : Bool) (is : List (ℕ × Propert
     indices = h.indices;
     range = h.range;
     length = h.length;
-    names = removed_distinct test ns h.names;
-    no_index = removed_no_index test ns h.no_index;
+    distinct = removed_distinct test ns h.distinct;
+    names = removed_names test ns h.names;
     no_length = removed_none length_name test ns h.no_length;
   }
   unnamed_orderly c test h = record {
     indices = h.indices;
     range = h.range;
     length = tt;
-    names = removed_distinct test ns h.names;
-    no_index = removed_no_index test ns h.no_index;
+    distinct = removed_distinct test ns h.distinct;
+    names = removed_names test ns h.names;
     no_length = tt;
   }
 
@@ -362,8 +362,8 @@ parts_orderly o prototype extensible h = record {
   indices = h.indices;
   range = h.range;
   length = h.length;
+  distinct = h.distinct;
   names = h.names;
-  no_index = h.no_index;
   no_length = h.no_length;
 }
 
@@ -398,7 +398,7 @@ method_orderly (SetPrototypeOf v) s n o k h = prototype_orderly s n v o h
 method_orderly Freeze s n o k h = frozen_orderly o.prototype o.extensible o.indexed o.named o.class h
 
 -- another value for a property that the object has: no `length` of an array
-pub with_property_orderly : (o : ObjectRecord) (t : Text) (p : Property) → index_of_text t ≡ None → is_length_of o.class t ≡ false → IsOrderly o → IsOrderly (with_property o (Named t) p)
+pub with_property_orderly : (o : ObjectRecord) (t : Text) (p : Property) → IsName t → is_length_of o.class t ≡ false → IsOrderly o → IsOrderly (with_property o (Named t) p)
 unfolding with_property
 with_property_orderly o t p k e h = string_orderly o.prototype o.extensible o.indexed o.named o.class t p k e h
 
@@ -408,5 +408,5 @@ pub strings_distinct : (o : ObjectRecord) → IsOrderly o → Distinct (strings 
 strings_distinct o h = by_class o.class h.no_length
   where
     by_class : (c : Class) → NoLength c o.named → Distinct (length_entry c ++ o.named)
-    by_class (Array n w) l = (l, h.names)
-    by_class c l = h.names
+    by_class (Array n w) l = (l, h.distinct)
+    by_class c l = h.distinct

@@ -69,6 +69,22 @@ first_counts : thing_after (runs twice things) 13 ≡ Some (promise (Fulfilled (
 unfolding computing promise reaction things twice
 first_counts = refl
 
+-- nor has it one while the promise waits for a thenable: their shared mark is set
+waiting : Act
+waiting = call_resolve_function 13 14 (Object 15) >>= (λ v. call_reject_function 13 14 (Number (pos 2)) >>= (λ w. call_resolve_function 13 14 (Number (pos 3))))
+
+waiting_things : thing_after (runs waiting things) 13 ∷ thing_after (runs waiting things) 14 ∷ [] ≡ Some (promise Pending []) ∷ Some (AMark true) ∷ []
+unfolding computing promise reaction things waiting
+waiting_things = refl
+
+waiting_jobs : (after waiting).jobs ≡ ThenableJob 13 (Object 15) (Object 16) ∷ []
+unfolding computing promise reaction things after waiting
+waiting_jobs = refl
+
+waiting_used : (after waiting).ledger.used ≡ some_slots 4
+unfolding computing promise reaction things after waiting
+waiting_used = refl
+
 -- settling a promise that isn't pending changes nothing and counts nothing
 settled_again : Act
 settled_again = fulfil_promise 17 Null (Give Null) >>= (λ v. reject_promise 17 Undefined (Give Null))

@@ -1,4 +1,4 @@
--- Every act that speaks of things that stand keeps the world well-formed.
+-- Every act that holds only values of the profile and of things that stand keeps the world well-formed.
 use Rattle.std.proofs.Common.{ℕ, zero, suc, ◌<◌, ◌≤◌, Bool, true, false, cond, List, [], ◌∷◌, length, arith, Option, Some, None, IfSome, get_or, le_refl}
 use Rattle.js_value.specs.Value.{Value, Undefined, Null, Boolean, Number, String, Object, Key}
 use Rattle.js_value.specs.Store.{Store, Property, Content, Data, Accessor, object_in, own_property}
@@ -25,7 +25,7 @@ property_below zero s key n h = tt
 property_below (suc fuel) s key None h = tt
 property_below (suc fuel) s key (Some n) h =
     later_below (length s) (own_property (object_in s n) key) (property_from fuel s key (object_in s n).prototype)
-    (own_property_below (length s) (object_in s n) key (h.objects n)) (property_below fuel s key (object_in s n).prototype h)
+    (own_property_below (length s) (object_in s n) key (h.orderly n) (h.objects n)) (property_below fuel s key (object_in s n).prototype h)
 
 value_descriptor_below : (m : ℕ) (v : Value) → IsValueBelow m v → IsDescriptorBelow m (value_descriptor v)
 value_descriptor_below m v h = record { value = h; get = tt; set = tt }
@@ -57,8 +57,8 @@ setter_below : (m : ℕ) (f : Value) → IsValueBelow m f → IsStepBelow m (set
 setter_below m Undefined h = tt
 setter_below m Null h = tt
 setter_below m (Boolean b) h = tt
-setter_below m (Number n) h = tt
-setter_below m (String t) h = tt
+setter_below m (Number n) h = h
+setter_below m (String t) h = h
 setter_below m (Object n) h = h
 
 step_below : (s : Store) (key : Key) (v receiver : Value) (found : Option Property) (m : ℕ) → IsValueBelow m v → IsValueBelow m receiver → IfSome found (λ r. IsContentBelow m r.content) → IsStepBelow m (set_step s key v receiver found)

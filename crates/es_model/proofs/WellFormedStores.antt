@@ -1,16 +1,17 @@
--- Every deed that speaks of things that stand keeps the world well-formed.
+-- Every deed that holds only values of the profile and of things that stand keeps the world well-formed.
 use Rattle.std.proofs.Common.{◌≡◌, ℕ, ◌+◌, ◌<◌, ◌≤◌, Bool, true, false, cond, not, ◌||◌, List, [], ◌∷◌, ◌++◌, length, set, filter, ◌==◌, arith, refl, sym, ap, ◌∙◌, subst, Option, Some, None, IfSome, slice_get, length-set, length-append}
 use Rattle.js_value.specs.Value.{Text, Named}
 use Rattle.js_value.specs.Store.{Store, Thing, AnObject, ACell, AMark, ObjectRecord, Property, Content, Data, Accessor, Class, Ordinary, Array, ScriptFunction, BuiltInFunction, ResolveFunction, RejectFunction, Error, Promise, PromiseState, Pending, Fulfilled, Rejected, Reaction, object_in, cell_in, mark_in, as_object, as_cell, no_object, own_property, is_length_of, frozen, size}
 use Rattle.js_value.specs.Literal.{digits_number}
-use Rattle.js_value.specs.Order.{IsOrderly}
-use Rattle.js_value.specs.WellFormed.{IfValueBelow, AreNumbersBelow, IsContentBelow, IsStateBelow, IsReactionBelow, AreReactionsBelow, IsClassBelow, IsObjectBelow, IsThingBelow, IsThingOrderly, ChainEnds, IsWellFormed}
+use Rattle.js_value.specs.Order.{IsName, IsOrderly}
+use Rattle.js_value.specs.WellFormed.{IfValueBelow, AreNumbersBelow, IsContentBelow, IsStateBelow, IsReactionBelow, AreReactionsBelow, IsClassBelow, IsObjectBelow, IsThingBelow, IsThingOrderly, ChainEnds, Ended, Next, IsWellFormed}
 use Rattle.js_value.proofs.Below.{value_more, object_more, if_value_more, numbers_more}
-use Rattle.es_model.specs.State.{World, Ledger, Counts, plus, nothing, some_slots, some_units, Job, FulfilJob, RejectJob, ThenableJob}
+use Rattle.js_value.proofs.Profile.{text_tested}
+use Rattle.es_model.specs.State.{World, Ledger, Counts, plus, nothing, some_slots, some_units, ModuleState, Job, FulfilJob, RejectJob, ThenableJob}
 use Rattle.es_model.specs.Ledger.{Happens, Full, charged, charged_unless, passed, written, with_thing, first_cost, with_name, name_added, name_cost, growth}
 use Rattle.es_model.specs.InternalMethods.{Method, DefineOwnProperty, Delete, PreventExtensions, SetPrototypeOf, Freeze, apply_method, set_prototype_of, same_prototype, on_chain, longest, refused, unchanged, wrote, prevent_extensions, freeze}
 use Rattle.es_model.specs.Events.{Deed, perform, Make, Apply, Attach, SetCell, SetMark, Settle, AddReaction, Enqueue, Dequeue, AddRejection, RemoveRejection, MakeText, Write, Take, apply_outcome, settle_class, react_class, dequeue, attached, with_prototype, pointing_to, prototype_name}
-use Rattle.es_model.specs.Laws.{IfHappens, IsMethodBelow, IsDeedBelow, IsJobBelow, AreJobsBelow, IsAnswerBelow, AreReactionAnswersBelow, IsJobAnswerBelow, IsWorldWellFormed}
+use Rattle.es_model.specs.Laws.{IfHappens, IsMethodBelow, IsDeedBelow, IsJobBelow, AreJobsBelow, AreModulesBelow, IsAnswerBelow, AreReactionAnswersBelow, IsJobAnswerBelow, IsWorldWellFormed}
 use Rattle.es_model.proofs.Chains.{set_keeps, append_keeps, set_chain, append_chain, prototype_chain, cut_chain}
 use Rattle.es_model.proofs.Prototypes.{define_prototype, delete_prototype, with_property_prototype}
 use Rattle.es_model.proofs.Closed.{method_below, own_property_below, with_property_below}
@@ -19,7 +20,7 @@ use Rattle.es_model.proofs.Orderly.{HasKey, method_orderly, with_property_orderl
 -- ---- stores
 
 no_object_orderly : IsOrderly no_object
-no_object_orderly = record { indices = tt; range = tt; length = tt; names = tt; no_index = tt; no_length = tt }
+no_object_orderly = record { indices = tt; range = tt; length = tt; names = tt; distinct = tt; no_length = tt }
 
 no_object_below : (m : ℕ) → IsObjectBelow m no_object
 no_object_below m = record { class = tt; prototype = tt; indexed = tt; named = tt }
@@ -39,6 +40,10 @@ cell_below_of m (AnObject o) h = tt
 cell_below_of m (ACell c) h = h
 cell_below_of m (AMark b) h = tt
 
+pub empty_well : IsWellFormed []
+unfolding object_in cell_in
+empty_well = record { orderly = λ n. no_object_orderly; objects = λ n. no_object_below 0; cells = λ n. tt; chains = λ n. Next n Ended }
+
 set_well : (s : Store) (n : ℕ) (t : Thing) → IsWellFormed s → IsThingOrderly t → IsThingBelow (length s) t → ((p : Option ℕ) → ChainEnds s p → ChainEnds (set s n t) p) → IsWellFormed (set s n t)
 unfolding object_in cell_in
 set_well s n t h o b chain = record {
@@ -48,7 +53,7 @@ set_well s n t h o b chain = record {
   chains = λ k. chain (Some k) (h.chains k);
 }
 
-append_well : (s : Store) (t : Thing) → IsWellFormed s → IsThingOrderly t → IsThingBelow (length s) t → IsWellFormed (s ++ t ∷ [])
+pub append_well : (s : Store) (t : Thing) → IsWellFormed s → IsThingOrderly t → IsThingBelow (length s) t → IsWellFormed (s ++ t ∷ [])
 unfolding object_in cell_in
 append_well s t h o b =
     let long : length (s ++ t ∷ []) ≡ length s + 1 = length-append s (t ∷ []) in
@@ -71,12 +76,16 @@ jobs_more m k le (job ∷ jobs) h = (one job h.0, jobs_more m k le jobs h.1)
     one (RejectJob a d v) b = (value_more m k le a b.0, omega (arith, b.1), value_more m k le v b.2)
     one (ThenableJob p t f) b = (omega (arith, b.0), value_more m k le t b.1, value_more m k le f b.2)
 
+modules_more : (m k : ℕ) → m ≤ k → (ms : List ModuleState) → AreModulesBelow m ms → AreModulesBelow k ms
+modules_more m k le [] h = tt
+modules_more m k le (s ∷ ms) h = (numbers_more m k le s.cells h.0, modules_more m k le ms h.1)
+
 ledger_well : (w : World) (l : Ledger) → IsWorldWellFormed w → IsWorldWellFormed (record w { ledger = l })
-ledger_well w l h = record { store = h.store; jobs = h.jobs; rejections = h.rejections; realm = h.realm; not_empty = h.not_empty }
+ledger_well w l h = record { store = h.store; jobs = h.jobs; rejections = h.rejections; realm = h.realm; modules = h.modules; not_empty = h.not_empty }
 
 name_well : (w : World) (name : Option Text) → IsWorldWellFormed w → IsWorldWellFormed (with_name name w)
 name_well w None h = h
-name_well w (Some t) h = record { store = h.store; jobs = h.jobs; rejections = h.rejections; realm = h.realm; not_empty = h.not_empty }
+name_well w (Some t) h = record { store = h.store; jobs = h.jobs; rejections = h.rejections; realm = h.realm; modules = h.modules; not_empty = h.not_empty }
 
 -- a world with another store of no fewer things
 store_well : (w : World) (s : Store) → length w.store ≤ length s → IsWorldWellFormed w → IsWellFormed s → IsWorldWellFormed (record w { store = s })
@@ -85,6 +94,7 @@ store_well w s le h g = record {
   jobs = jobs_more (length w.store) (length s) le w.jobs h.jobs;
   rejections = numbers_more (length w.store) (length s) le w.rejections h.rejections;
   realm = numbers_more (length w.store) (length s) le w.realm h.realm;
+  modules = modules_more (length w.store) (length s) le w.modules h.modules;
   not_empty = let e = h.not_empty in omega arith;
 }
 
@@ -160,7 +170,7 @@ apply_well w n m before answer (Some after) h o b c =
 -- ---- promises
 
 promise_orderly : (o : ObjectRecord) (state : PromiseState) (reactions : List Reaction) → IsOrderly o → IsOrderly (record o { class = Promise state reactions })
-promise_orderly o state reactions h = record { indices = h.indices; range = h.range; length = tt; names = h.names; no_index = h.no_index; no_length = tt }
+promise_orderly o state reactions h = record { indices = h.indices; range = h.range; length = tt; names = h.names; distinct = h.distinct; no_length = tt }
 
 promise_below : (m : ℕ) (o : ObjectRecord) (state : PromiseState) (reactions : List Reaction) → IsStateBelow m state → AreReactionsBelow m reactions → IsObjectBelow m o → IsObjectBelow m (record o { class = Promise state reactions })
 promise_below m o state reactions s r h = record { class = (s, r); prototype = h.prototype; indexed = h.indexed; named = h.named }
@@ -228,10 +238,13 @@ pointing_below : (m p : ℕ) (c : Content) → p < m → IsContentBelow m c → 
 pointing_below m p (Data v w) l h = l
 pointing_below m p (Accessor g s) l h = h
 
-with_prototype_orderly : (p : ℕ) (o : ObjectRecord) (q : Option Property) → IsOrderly o → IsOrderly (with_prototype p o q)
+prototype_name_is : IsName prototype_name
 unfolding digits_number
+prototype_name_is = record { text = text_tested prototype_name refl; no_index = refl }
+
+with_prototype_orderly : (p : ℕ) (o : ObjectRecord) (q : Option Property) → IsOrderly o → IsOrderly (with_prototype p o q)
 with_prototype_orderly p o None h = h
-with_prototype_orderly p o (Some q) h = with_property_orderly o prototype_name (record q { content = pointing_to p q.content }) refl (no_length o.class) h
+with_prototype_orderly p o (Some q) h = with_property_orderly o prototype_name (record q { content = pointing_to p q.content }) prototype_name_is (no_length o.class) h
 
 with_prototype_below : (m p : ℕ) (o : ObjectRecord) (q : Option Property) → p < m → IfSome q (λ r. IsContentBelow m r.content) → IsObjectBelow m o → IsObjectBelow m (with_prototype p o q)
 with_prototype_below m p o None l c h = h
@@ -251,7 +264,7 @@ attach_well w f p (Some (AnObject o)) e l h =
     let after : Thing = AnObject (with_prototype p o q) in
     store_well w (set w.store f after) (set_le w.store f after) h
     (set_well w.store f after h.store (with_prototype_orderly p o q orderly)
-    (with_prototype_below (length w.store) p o q l (own_property_below (length w.store) o (Named prototype_name) below) below)
+    (with_prototype_below (length w.store) p o q l (own_property_below (length w.store) o (Named prototype_name) orderly below) below)
     (set_chain w.store f after (with_prototype_same p o q ∙ ap (λ (x : ObjectRecord). x.prototype) (sym here))))
 attach_well w f p (Some (ACell c)) e l h = h
 attach_well w f p (Some (AMark b)) e l h = h
@@ -276,14 +289,14 @@ numbers_filter m test (n ∷ ns) h = by_test (test n) (numbers_filter m test ns 
     by_test false rest = rest
 
 jobs_well : (w : World) (jobs : List Job) (l : Ledger) → IsWorldWellFormed w → AreJobsBelow (length w.store) jobs → IsWorldWellFormed (record w { jobs = jobs; ledger = l })
-jobs_well w jobs l h b = record { store = h.store; jobs = b; rejections = h.rejections; realm = h.realm; not_empty = h.not_empty }
+jobs_well w jobs l h b = record { store = h.store; jobs = b; rejections = h.rejections; realm = h.realm; modules = h.modules; not_empty = h.not_empty }
 
 dequeue_well : (w : World) (jobs : List Job) → IsWorldWellFormed w → AreJobsBelow (length w.store) jobs → IfHappens (dequeue jobs w) (λ a v. IsWorldWellFormed v × IsJobAnswerBelow (length v.store) a)
 dequeue_well w [] h b = (h, tt)
 dequeue_well w (job ∷ jobs) h b = (jobs_well w jobs w.ledger h b.1, b.0)
 
 rejections_well : (w : World) (ns : List ℕ) → IsWorldWellFormed w → AreNumbersBelow (length w.store) ns → IsWorldWellFormed (record w { rejections = ns })
-rejections_well w ns h b = record { store = h.store; jobs = h.jobs; rejections = b; realm = h.realm; not_empty = h.not_empty }
+rejections_well w ns h b = record { store = h.store; jobs = h.jobs; rejections = b; realm = h.realm; modules = h.modules; not_empty = h.not_empty }
 
 -- ---- all deeds
 
@@ -298,7 +311,7 @@ perform_well (Apply n m) w h b =
     let before : ObjectRecord = object_in w.store n in
     apply_well w n m before (apply_method m w.store n before).answer (apply_method m w.store n before).written h
     (method_orderly m w.store n before (has_key (length w.store) m b) (h.store.orderly n))
-    (method_below (length w.store) m w.store n before b (h.store.objects n))
+    (method_below (length w.store) m w.store n before b (h.store.orderly n) (h.store.objects n))
     (method_chain m w.store n)
 perform_well (Attach f p) w h b = (attach_well w f p (slice_get w.store f) refl b h, tt)
 perform_well (SetCell n v) w h b = other_well w n (ACell (cell_in w.store n)) (ACell (record { value = Some v; const = (cell_in w.store n).const })) nothing h tt b refl
@@ -310,5 +323,5 @@ perform_well Dequeue w h b = dequeue_well w w.jobs h h.jobs
 perform_well (AddRejection n) w h b = (rejections_well w (w.rejections ++ n ∷ []) h (numbers_append (length w.store) w.rejections n h.rejections b), tt)
 perform_well (RemoveRejection n) w h b = (rejections_well w (filter (λ m. not (m == n)) w.rejections) h (numbers_filter (length w.store) (λ m. not (m == n)) w.rejections h.rejections), tt)
 perform_well (MakeText units) w h b = charged_well (λ a v. IsWorldWellFormed v × (Unit {0})) (some_units units) tt w (λ l. (ledger_well w l h, tt))
-perform_well (Write bytes) w h b = (record { store = h.store; jobs = h.jobs; rejections = h.rejections; realm = h.realm; not_empty = h.not_empty }, tt)
-perform_well (Take line left) w h b = (record { store = h.store; jobs = h.jobs; rejections = h.rejections; realm = h.realm; not_empty = h.not_empty }, tt)
+perform_well (Write bytes) w h b = (record { store = h.store; jobs = h.jobs; rejections = h.rejections; realm = h.realm; modules = h.modules; not_empty = h.not_empty }, tt)
+perform_well (Take line left) w h b = (record { store = h.store; jobs = h.jobs; rejections = h.rejections; realm = h.realm; modules = h.modules; not_empty = h.not_empty }, tt)

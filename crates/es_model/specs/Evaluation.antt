@@ -141,7 +141,7 @@ abbrev pub host_function : HostFunction → List Value → Doing Value
 host_function Print arguments = print_value (first arguments)
 host_function Read arguments = ends Unbuilt
 
--- Call (7.3.14)
+-- Call (7.3.13)
 abbrev pub call : Value → List Value → Doing Value
 call (Function function) arguments = take_unit >> within_call (host_function function arguments)
 call Undefined arguments = ends Unbuilt

@@ -227,8 +227,8 @@ abbrev pub or_later : Option Property → Option Property → Option Property
 or_later (Some p) later = Some p
 or_later None later = later
 
--- The property of a key on an object or along its prototype chain: steps 1 to 4 of OrdinaryGet (10.1.8.1), step 1 of
--- OrdinarySetWithOwnDescriptor (10.1.9.2), and OrdinaryHasProperty (10.1.7.1) where it is none.
+-- The property of a key on an object or along its prototype chain: steps 1 and 2 of OrdinaryGet (10.1.8.1), step 1 of
+-- OrdinarySetWithOwnDescriptor (10.1.9.2), and all of OrdinaryHasProperty (10.1.7.1).
 unfoldable pub property_from : (fuel : ℕ) → Store → Key → Option ℕ → Option Property
 property_from zero s key n = None
 property_from (suc fuel) s key None = None

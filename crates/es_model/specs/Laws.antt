@@ -4,7 +4,7 @@ use Rattle.js_value.specs.Value.{Value, Text}
 use Rattle.js_value.specs.Store.{Reaction}
 use Rattle.js_value.specs.Order.{IsKey, IsOrderly}
 use Rattle.js_value.specs.WellFormed.{IsValueBelow, IfValueBelow, IfNumberBelow, AreNumbersBelow, AreValuesBelow, IsContentBelow, IsStateBelow, IsReactionBelow, AreReactionsBelow, IsObjectBelow, IsThingBelow, IsThingOrderly, IsWellFormed}
-use Rattle.es_model.specs.State.{Ledger, World, State, Job, FulfilJob, RejectJob, ThenableJob}
+use Rattle.es_model.specs.State.{Ledger, World, State, ModuleState, Job, FulfilJob, RejectJob, ThenableJob}
 use Rattle.es_model.specs.Ledger.{Event, Happens, Stops, OutOf}
 use Rattle.es_model.specs.InternalMethods.{PropertyDescriptor, Method, DefineOwnProperty, SetPrototypeOf, SetStep, RefusesSet, CallsSetter, DefinesOn}
 use Rattle.es_model.specs.Events.{Question, Reply, TheObject, TheCell, TheMark, TheProperty, TheSetStep, TheIntrinsic, TheInput, Deed, Answer, Make, Apply, Attach, SetCell, SetMark, Settle, AddReaction, Enqueue, Dequeue, AddRejection}
@@ -76,7 +76,7 @@ changes (Settle n state) k = n == k
 changes (AddReaction n r) k = n == k
 changes _ k = false
 
--- ---- what speaks only of things below m
+-- ---- what holds only values of the profile and of things below m
 
 pub record IsDescriptorBelow (m : ℕ) (d : PropertyDescriptor) : Type 0 where
   pub value : IfValueBelow m d.value
@@ -97,6 +97,11 @@ IsJobBelow m (ThenableJob promise thenable next) = (promise < m) × IsValueBelow
 abbrev pub AreJobsBelow : ℕ → List Job → Type 0
 AreJobsBelow m [] = Unit {0}
 AreJobsBelow m (job ∷ jobs) = IsJobBelow m job × AreJobsBelow m jobs
+
+-- the cells of modules' top-level bindings
+abbrev pub AreModulesBelow : ℕ → List ModuleState → Type 0
+AreModulesBelow m [] = Unit {0}
+AreModulesBelow m (s ∷ ss) = AreNumbersBelow m s.cells × AreModulesBelow m ss
 
 -- a thing that is made is in order itself
 abbrev pub IsDeedBelow : ℕ → Deed → Type 0
@@ -148,7 +153,8 @@ abbrev pub IsCompletionBelow : ℕ → Completion → Type 0
 IsCompletionBelow m (NormalCompletion v) = IsValueBelow m v
 IsCompletionBelow m (ThrowCompletion v) = IsValueBelow m v
 
--- An act speaks only of things below m, and what it goes on with of things that stand by then.
+-- An act holds only values of the profile and of things below m, and what it goes on with such of things that stand by
+-- then.
 abbrev pub IsActBelow : ℕ → Act → Type 0
 IsActBelow m (Give v) = IsValueBelow m v
 IsActBelow m (Throw v) = IsValueBelow m v
@@ -166,6 +172,7 @@ pub record IsWorldWellFormed (w : World) : Type 0 where
   pub jobs : AreJobsBelow (length w.store) w.jobs
   pub rejections : AreNumbersBelow (length w.store) w.rejections
   pub realm : AreNumbersBelow (length w.store) w.realm
+  pub modules : AreModulesBelow (length w.store) w.modules
   pub not_empty : 0 < length w.store
 
 -- ---- runs

@@ -82,11 +82,11 @@ set_v convert _ key v k = raise NoProperties
 unfoldable pub set_or_throw : NumberConversion → ℕ → Key → Value → Act → Act
 set_or_throw convert n key v k = ordinary_set convert n key v (Object n) (accepted_or (raise NotWritable) k)
 
--- PutValue (6.2.5.6), step 5
+-- PutValue (6.2.5.6) on a property reference
 unfoldable pub put_value : Value → Key → Value → Act → Act
 put_value base key v k = set_v to_number base key v (accepted_or (raise NotWritable) k)
 
--- ---- DeletePropertyOrThrow (7.3.9), and the delete operator on a value's property (13.5.1.2, step 5)
+-- ---- DeletePropertyOrThrow (7.3.9), and the delete operator on a value's property (13.5.1.2)
 
 unfoldable pub delete_property_or_throw : ℕ → Key → Act → Act
 delete_property_or_throw n key k = Do (Apply n (Delete key)) (accepted_or (raise NotDeletable) k)

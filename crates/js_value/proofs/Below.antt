@@ -1,4 +1,4 @@
--- What speaks only of things below m speaks only of things below any k past it; edits of property lists add nothing else.
+-- What holds only values of things below m holds only values of things below any k past it; edits of property lists add nothing else.
 use Rattle.std.proofs.Common.{ℕ, ◌≤◌, Bool, true, false, cond, List, [], ◌∷◌, ◌++◌, nat_lt, ◌==◌, arith, Option, Some, None, IfSome}
 use Rattle.js_value.specs.Value.{Value, Undefined, Null, Boolean, Number, String, Object, Text, same_text}
 use Rattle.js_value.specs.Store.{Content, Data, Accessor, Property, PromiseState, Pending, Fulfilled, Rejected, Reaction, Class, Ordinary, Array, ScriptFunction, BuiltInFunction, ResolveFunction, RejectFunction, Error, Promise, ObjectRecord, Thing, AnObject, ACell, AMark, found, removed, put_name, put_index}
@@ -10,8 +10,8 @@ module _ (m k : ℕ) (le : m ≤ k) where
   value_more Undefined h = tt
   value_more Null h = tt
   value_more (Boolean b) h = tt
-  value_more (Number n) h = tt
-  value_more (String t) h = tt
+  value_more (Number n) h = h
+  value_more (String t) h = h
 
   pub if_value_more : (v : Option Value) → IfValueBelow m v → IfValueBelow k v
   if_value_more None h = tt

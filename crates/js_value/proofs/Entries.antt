@@ -2,10 +2,9 @@
 use Rattle.std.proofs.Common.{◌≡◌, ℕ, ◌<◌, ◌≤◌, Bool, true, false, cond, List, [], ◌∷◌, nat_lt, ◌==◌, arith, refl, sym, ap, ◌∙◌, subst, Some, None}
 use Rattle.std.proofs.lemmas.Bool.Decides.{nat_tests}
 use Rattle.std.proofs.lemmas.Slice.Eq.{bytes_eq-Decides}
-use Rattle.js_value.specs.NumberText.{index_of_text}
 use Rattle.js_value.specs.Value.{Text, same_text}
 use Rattle.js_value.specs.Store.{found, removed, put_name, put_index}
-use Rattle.js_value.specs.Order.{AllAbove, AllBelow, Ascending, Distinct, NoIndexText}
+use Rattle.js_value.specs.Order.{AllAbove, AllBelow, Ascending, Distinct, IsName, AreNames}
 
 -- ---- texts
 
@@ -61,11 +60,11 @@ put_name_distinct {X} t x (e ∷ es) d = by_test (same_text t e.0) refl (put_nam
         let f : same_text e.0 t ≡ false = same_text_sym e.0 t ∙ q in
         (found-put_name e.0 t x es ∙ ap (λ b. cond b (Some x) (found (same_text e.0) es)) f ∙ d.0, rest)
 
-pub put_name_no_index : {X : Type 0} (t : Text) (x : X) (es : List (Text × X)) → index_of_text t ≡ None → NoIndexText es → NoIndexText (put_name t x es)
-put_name_no_index t x [] n d = (n, tt)
-put_name_no_index {X} t x (e ∷ es) n d = by_test (same_text t e.0) (put_name_no_index t x es n d.1)
+pub put_name_names : {X : Type 0} (t : Text) (x : X) (es : List (Text × X)) → IsName t → AreNames es → AreNames (put_name t x es)
+put_name_names t x [] n d = (n, tt)
+put_name_names {X} t x (e ∷ es) n d = by_test (same_text t e.0) (put_name_names t x es n d.1)
   where
-    by_test : (b : Bool) → NoIndexText (put_name t x es) → NoIndexText (cond b ((t, x) ∷ es) (e ∷ put_name t x es))
+    by_test : (b : Bool) → AreNames (put_name t x es) → AreNames (cond b ((t, x) ∷ es) (e ∷ put_name t x es))
     by_test true rest = (n, d.1)
     by_test false rest = (d.0, rest)
 
@@ -89,11 +88,11 @@ removed_distinct {X} is (e ∷ es) d = by_test (is e.0) (removed_distinct is es 
     by_test true rest = d.1
     by_test false rest = (none_kept e.0 is es d.0, rest)
 
-pub removed_no_index : {X : Type 0} (is : Text → Bool) (es : List (Text × X)) → NoIndexText es → NoIndexText (removed is es)
-removed_no_index is [] d = tt
-removed_no_index {X} is (e ∷ es) d = by_test (is e.0) (removed_no_index is es d.1)
+pub removed_names : {X : Type 0} (is : Text → Bool) (es : List (Text × X)) → AreNames es → AreNames (removed is es)
+removed_names is [] d = tt
+removed_names {X} is (e ∷ es) d = by_test (is e.0) (removed_names is es d.1)
   where
-    by_test : (b : Bool) → NoIndexText (removed is es) → NoIndexText (cond b es (e ∷ removed is es))
+    by_test : (b : Bool) → AreNames (removed is es) → AreNames (cond b es (e ∷ removed is es))
     by_test true rest = d.1
     by_test false rest = (d.0, rest)
 

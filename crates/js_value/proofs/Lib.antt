@@ -15,8 +15,10 @@ pub mod Laws
 pub mod Samples
 pub mod Below
 pub mod Entries
+pub mod Profile
 mod KeyRows
 pub mod Keys
 pub mod NumberTexts
 pub mod Tables
 mod CaseRows
+mod ValueRows

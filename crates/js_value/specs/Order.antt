@@ -1,16 +1,32 @@
 -- The order of own keys, and the store's other invariants.
-use Rattle.std.specs.Prelude.{◌≡◌, ℕ, ◌<◌, List, [], ◌∷◌, None}
+use Rattle.std.specs.Prelude.{◌≡◌, ℕ, ◌<◌, ◌≤◌, List, [], ◌∷◌, length, None}
+use Rattle.js_value.specs.Number.{greatest}
 use Rattle.js_value.specs.NumberText.{text_of_number, index_of_text}
 use Rattle.js_value.specs.Value.{Text, same_text, Key, Index, Named, Numeral}
 use Rattle.js_value.specs.Store.{Class, Array, ObjectRecord, found, length_name}
 
+-- ---- Strings (ECMA-262 6.1.4): at most 2 ^ 53 - 1 units of 16 bits
+
+abbrev pub AreUnits : Text → Type 0
+AreUnits [] = Unit {0}
+AreUnits (u ∷ us) = (u < 65536) × AreUnits us
+
+pub record IsText (t : Text) : Type 0 where
+  pub units : AreUnits t
+  pub bound : length t ≤ greatest
+
 -- ---- keys
+
+-- a String that is no array index
+pub record IsName (t : Text) : Type 0 where
+  pub text : IsText t
+  pub no_index : index_of_text t ≡ None
 
 -- array indices end below 2 ^ 32 - 1, and no other key is an index's text
 abbrev pub IsKey : Key → Type 0
 IsKey (Index i) = i < 4294967295
-IsKey (Named t) = index_of_text t ≡ None
-IsKey (Numeral n) = index_of_text (text_of_number n) ≡ None
+IsKey (Named t) = IsName t
+IsKey (Numeral n) = IsName (text_of_number n)
 
 -- ---- entries by index
 
@@ -32,9 +48,9 @@ abbrev pub Distinct : {X : Type 0} → List (Text × X) → Type 0
 Distinct [] = Unit {0}
 Distinct (e ∷ es) = (found (same_text e.0) es ≡ None) × Distinct es
 
-abbrev pub NoIndexText : {X : Type 0} → List (Text × X) → Type 0
-NoIndexText [] = Unit {0}
-NoIndexText (e ∷ es) = (index_of_text e.0 ≡ None) × NoIndexText es
+abbrev pub AreNames : {X : Type 0} → List (Text × X) → Type 0
+AreNames [] = Unit {0}
+AreNames (e ∷ es) = IsName e.0 × AreNames es
 
 -- ---- objects
 
@@ -52,6 +68,6 @@ pub record IsOrderly (o : ObjectRecord) : Type 0 where
   pub indices : Ascending o.indexed
   pub range : AllBelow 4294967295 o.indexed
   pub length : FitsLength o.class o.indexed
-  pub names : Distinct o.named
-  pub no_index : NoIndexText o.named
+  pub names : AreNames o.named
+  pub distinct : Distinct o.named
   pub no_length : NoLength o.class o.named

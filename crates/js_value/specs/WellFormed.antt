@@ -1,12 +1,16 @@
--- Well-formed stores: the things that are spoken of exist, own keys are in order, and prototype chains end.
+-- Well-formed stores: values are of the profile, the things that are spoken of exist, own keys are in order, and
+-- prototype chains end.
 use Rattle.std.specs.Prelude.{ℕ, ◌<◌, List, [], ◌∷◌, length, Option, Some, None}
-use Rattle.js_value.specs.Value.{Value, Object}
+use Rattle.js_value.specs.Number.{IsNumber}
+use Rattle.js_value.specs.Value.{Value, Number, String, Object}
 use Rattle.js_value.specs.Store.{Content, Data, Accessor, Property, PromiseState, Pending, Fulfilled, Rejected, Reaction, Class, ScriptFunction, ResolveFunction, RejectFunction, Promise, ObjectRecord, Thing, AnObject, ACell, AMark, Store, object_in, cell_in}
-use Rattle.js_value.specs.Order.{IsOrderly}
+use Rattle.js_value.specs.Order.{IsText, IsOrderly}
 
--- ---- what speaks only of things below m
+-- ---- values of the profile that speak only of things below m, and what holds such values alone
 
 abbrev pub IsValueBelow : ℕ → Value → Type 0
+IsValueBelow m (Number n) = IsNumber n
+IsValueBelow m (String t) = IsText t
 IsValueBelow m (Object n) = n < m
 IsValueBelow m _ = Unit {0}
 

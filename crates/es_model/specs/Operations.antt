@@ -1,0 +1,188 @@
+-- All operations that are acts, and when what one is handed is in order: values are of the profile, keys are keys, and
+-- all that is spoken of stands.
+use Rattle.std.specs.Prelude.{ℕ, ◌≤◌, ◌<◌, Bool, ℤ, Option, IfSome}
+use Rattle.js_value.specs.Number.{IsNumber}
+use Rattle.js_value.specs.Value.{Value, Text, Key}
+use Rattle.js_value.specs.Store.{Property}
+use Rattle.js_value.specs.Order.{IsText, IsKey}
+use Rattle.js_value.specs.WellFormed.{IsValueBelow, IsContentBelow}
+use Rattle.es_model.specs.State.{Job}
+use Rattle.es_model.specs.InternalMethods.{PropertyDescriptor}
+use Rattle.es_model.specs.Messages.{Message}
+use Rattle.es_model.specs.Act.{Act}
+use Rattle.es_model.specs.Errors.{make_error, raise, make_text}
+use Rattle.es_model.specs.PropertyReads.{is_callable, property_value, get, has_property, get_v}
+use Rattle.es_model.specs.Conversions.{Hint, to_primitive, to_number, to_string, to_property_key, number_expected, text_expected, key_expected, is_loosely_equal}
+use Rattle.es_model.specs.PropertyWrites.{NumberConversion, define_own_property, define_property_or_throw, create_data_property, create_data_property_or_throw, ordinary_set, set_v, set_or_throw, put_value, delete_property_or_throw, delete_v}
+use Rattle.es_model.specs.Bindings.{make_cell, initialize_cell, read_cell, write_cell, copy_cell}
+use Rattle.es_model.specs.Jobs.{fulfil_promise, reject_promise, resolve_promise, create_resolving_functions, call_resolve_function, call_reject_function, make_promise, perform_promise_then, promise_then, run_job, run_first_job}
+use Rattle.es_model.specs.Laws.{IsDescriptorBelow, IsJobBelow, IsActBelow}
+
+-- ---- the operations, each with what comes after it
+
+pub data Operation : Type 0 where
+  -- errors and made texts
+  Raise : Message → Operation
+  MakeError : Message → (ℕ → Act) → Operation
+  MakeString : Text → (Value → Act) → Operation
+  -- conversions and equality
+  ToPrimitive : Hint → Value → (Value → Act) → Operation
+  ToNumber : Value → (ℤ → Act) → Operation
+  ToString : Value → (Text → Act) → Operation
+  ToPropertyKey : Value → (Key → Act) → Operation
+  NumberExpected : Value → (ℤ → Act) → Operation
+  TextExpected : Value → (Text → Act) → Operation
+  KeyExpected : Value → (Key → Act) → Operation
+  IsLooselyEqual : (x y : Value) → (Bool → Act) → Operation
+  -- reads
+  IsCallable : Value → (Bool → Act) → Operation
+  PropertyValue : Option Property → (receiver : Value) → (Value → Act) → Operation
+  Get : ℕ → Key → (Value → Act) → Operation
+  HasProperty : ℕ → Key → (Bool → Act) → Operation
+  GetV : Value → Key → (Value → Act) → Operation
+  -- writes
+  DefineProperty : NumberConversion → ℕ → Key → PropertyDescriptor → (Bool → Act) → Operation
+  DefinePropertyOrThrow : NumberConversion → ℕ → Key → PropertyDescriptor → Act → Operation
+  CreateDataProperty : ℕ → Key → Value → (Bool → Act) → Operation
+  CreateDataPropertyOrThrow : ℕ → Key → Value → Act → Operation
+  OrdinarySet : NumberConversion → ℕ → Key → Value → (receiver : Value) → (Bool → Act) → Operation
+  SetV : NumberConversion → (base : Value) → Key → Value → (Bool → Act) → Operation
+  SetOrThrow : NumberConversion → ℕ → Key → Value → Act → Operation
+  PutValue : (base : Value) → Key → Value → Act → Operation
+  DeletePropertyOrThrow : ℕ → Key → Act → Operation
+  DeleteV : (base : Value) → Key → Act → Operation
+  -- cells
+  MakeCell : (const : Bool) → (ℕ → Act) → Operation
+  InitializeCell : ℕ → Value → Act → Operation
+  ReadCell : ℕ → (Value → Act) → Operation
+  WriteCell : ℕ → Value → Act → Operation
+  CopyCell : ℕ → (ℕ → Act) → Operation
+  -- promises and jobs
+  FulfilPromise : ℕ → Value → Act → Operation
+  RejectPromise : ℕ → Value → Act → Operation
+  ResolvePromise : ℕ → Value → Act → Operation
+  CreateResolvingFunctions : ℕ → ((mark resolve reject : ℕ) → Act) → Operation
+  CallResolveFunction : (promise mark : ℕ) → Value → Operation
+  CallRejectFunction : (promise mark : ℕ) → Value → Operation
+  MakePromise : (ℕ → Act) → Operation
+  PerformPromiseThen : ℕ → (on_fulfilled on_rejected : Value) → (derived : ℕ) → Act → Operation
+  PromiseThen : ℕ → (on_fulfilled on_rejected : Value) → (ℕ → Act) → Operation
+  RunJob : Job → Operation
+  RunFirstJob : Operation
+
+abbrev pub act_of : Operation → Act
+act_of (Raise m) = raise m
+act_of (MakeError m k) = make_error m k
+act_of (MakeString t k) = make_text t k
+act_of (ToPrimitive hint v k) = to_primitive hint v k
+act_of (ToNumber v k) = to_number v k
+act_of (ToString v k) = to_string v k
+act_of (ToPropertyKey v k) = to_property_key v k
+act_of (NumberExpected v k) = number_expected v k
+act_of (TextExpected v k) = text_expected v k
+act_of (KeyExpected v k) = key_expected v k
+act_of (IsLooselyEqual x y k) = is_loosely_equal x y k
+act_of (IsCallable v k) = is_callable v k
+act_of (PropertyValue p receiver k) = property_value p receiver k
+act_of (Get n key k) = get n key k
+act_of (HasProperty n key k) = has_property n key k
+act_of (GetV v key k) = get_v v key k
+act_of (DefineProperty convert n key d k) = define_own_property convert n key d k
+act_of (DefinePropertyOrThrow convert n key d k) = define_property_or_throw convert n key d k
+act_of (CreateDataProperty n key v k) = create_data_property n key v k
+act_of (CreateDataPropertyOrThrow n key v k) = create_data_property_or_throw n key v k
+act_of (OrdinarySet convert n key v receiver k) = ordinary_set convert n key v receiver k
+act_of (SetV convert base key v k) = set_v convert base key v k
+act_of (SetOrThrow convert n key v k) = set_or_throw convert n key v k
+act_of (PutValue base key v k) = put_value base key v k
+act_of (DeletePropertyOrThrow n key k) = delete_property_or_throw n key k
+act_of (DeleteV base key k) = delete_v base key k
+act_of (MakeCell const k) = make_cell const k
+act_of (InitializeCell c v k) = initialize_cell c v k
+act_of (ReadCell c k) = read_cell c k
+act_of (WriteCell c v k) = write_cell c v k
+act_of (CopyCell c k) = copy_cell c k
+act_of (FulfilPromise p v k) = fulfil_promise p v k
+act_of (RejectPromise p v k) = reject_promise p v k
+act_of (ResolvePromise p v k) = resolve_promise p v k
+act_of (CreateResolvingFunctions p k) = create_resolving_functions p k
+act_of (CallResolveFunction p mark v) = call_resolve_function p mark v
+act_of (CallRejectFunction p mark v) = call_reject_function p mark v
+act_of (MakePromise k) = make_promise k
+act_of (PerformPromiseThen p f r derived k) = perform_promise_then p f r derived k
+act_of (PromiseThen p f r k) = promise_then p f r k
+act_of (RunJob job) = run_job job
+act_of RunFirstJob = run_first_job
+
+-- ---- what one is handed
+
+-- what comes after speaks only of things that stand by then, where what it is given is in order
+abbrev pub Later : {T : Type 0} → ℕ → (ℕ → T → Type 0) → (T → Act) → Type 0
+Later {T} m B k = (n : ℕ) → m ≤ n → (x : T) → B n x → IsActBelow n (k x)
+
+abbrev pub AnyBool : ℕ → Bool → Type 0
+AnyBool n b = Unit {0}
+
+abbrev pub ANumber : ℕ → ℤ → Type 0
+ANumber n z = IsNumber z
+
+abbrev pub AText : ℕ → Text → Type 0
+AText n t = IsText t
+
+abbrev pub AKey : ℕ → Key → Type 0
+AKey n key = IsKey key
+
+abbrev pub AThing : ℕ → ℕ → Type 0
+AThing n x = x < n
+
+-- a conversion to a Number asks for a value and gives a Number
+abbrev pub IsConversionBelow : NumberConversion → Type 0
+IsConversionBelow convert = (m : ℕ) (v : Value) (k : ℤ → Act) → IsValueBelow m v → Later m ANumber k → IsActBelow m (convert v k)
+
+-- a property that was found, if there is one
+abbrev pub IfPropertyBelow : ℕ → Option Property → Type 0
+IfPropertyBelow m p = IfSome p (λ q. IsContentBelow m q.content)
+
+abbrev pub IsOperationBelow : ℕ → Operation → Type 0
+IsOperationBelow m (Raise e) = Unit {0}
+IsOperationBelow m (MakeError e k) = Later m AThing k
+IsOperationBelow m (MakeString t k) = IsText t × Later m IsValueBelow k
+IsOperationBelow m (ToPrimitive hint v k) = IsValueBelow m v × Later m IsValueBelow k
+IsOperationBelow m (ToNumber v k) = IsValueBelow m v × Later m ANumber k
+IsOperationBelow m (ToString v k) = IsValueBelow m v × Later m AText k
+IsOperationBelow m (ToPropertyKey v k) = IsValueBelow m v × Later m AKey k
+IsOperationBelow m (NumberExpected v k) = IsValueBelow m v × Later m ANumber k
+IsOperationBelow m (TextExpected v k) = IsValueBelow m v × Later m AText k
+IsOperationBelow m (KeyExpected v k) = IsValueBelow m v × Later m AKey k
+IsOperationBelow m (IsLooselyEqual x y k) = IsValueBelow m x × IsValueBelow m y × Later m AnyBool k
+IsOperationBelow m (IsCallable v k) = Later m AnyBool k
+IsOperationBelow m (PropertyValue p receiver k) = IfPropertyBelow m p × IsValueBelow m receiver × Later m IsValueBelow k
+IsOperationBelow m (Get n key k) = (n < m) × Later m IsValueBelow k
+IsOperationBelow m (HasProperty n key k) = Later m AnyBool k
+IsOperationBelow m (GetV v key k) = IsValueBelow m v × Later m IsValueBelow k
+IsOperationBelow m (DefineProperty convert n key d k) = IsConversionBelow convert × IsKey key × IsDescriptorBelow m d × Later m AnyBool k
+IsOperationBelow m (DefinePropertyOrThrow convert n key d k) = IsConversionBelow convert × IsKey key × IsDescriptorBelow m d × IsActBelow m k
+IsOperationBelow m (CreateDataProperty n key v k) = IsKey key × IsValueBelow m v × Later m AnyBool k
+IsOperationBelow m (CreateDataPropertyOrThrow n key v k) = IsKey key × IsValueBelow m v × IsActBelow m k
+IsOperationBelow m (OrdinarySet convert n key v receiver k) = IsConversionBelow convert × IsKey key × IsValueBelow m v × IsValueBelow m receiver × Later m AnyBool k
+IsOperationBelow m (SetV convert base key v k) = IsConversionBelow convert × IsValueBelow m base × IsKey key × IsValueBelow m v × Later m AnyBool k
+IsOperationBelow m (SetOrThrow convert n key v k) = IsConversionBelow convert × (n < m) × IsKey key × IsValueBelow m v × IsActBelow m k
+IsOperationBelow m (PutValue base key v k) = IsValueBelow m base × IsKey key × IsValueBelow m v × IsActBelow m k
+IsOperationBelow m (DeletePropertyOrThrow n key k) = IsActBelow m k
+IsOperationBelow m (DeleteV base key k) = IsActBelow m k
+IsOperationBelow m (MakeCell const k) = Later m AThing k
+IsOperationBelow m (InitializeCell c v k) = IsValueBelow m v × IsActBelow m k
+IsOperationBelow m (ReadCell c k) = Later m IsValueBelow k
+IsOperationBelow m (WriteCell c v k) = IsValueBelow m v × IsActBelow m k
+IsOperationBelow m (CopyCell c k) = Later m AThing k
+IsOperationBelow m (FulfilPromise p v k) = IsValueBelow m v × IsActBelow m k
+IsOperationBelow m (RejectPromise p v k) = (p < m) × IsValueBelow m v × IsActBelow m k
+IsOperationBelow m (ResolvePromise p v k) = (p < m) × IsValueBelow m v × IsActBelow m k
+IsOperationBelow m (CreateResolvingFunctions p k) = (p < m) × ((n : ℕ) → m ≤ n → (mark resolve reject : ℕ) → mark < n → resolve < n → reject < n → IsActBelow n (k mark resolve reject))
+IsOperationBelow m (CallResolveFunction p mark v) = (p < m) × IsValueBelow m v
+IsOperationBelow m (CallRejectFunction p mark v) = (p < m) × IsValueBelow m v
+IsOperationBelow m (MakePromise k) = Later m AThing k
+IsOperationBelow m (PerformPromiseThen p f r derived k) = IsValueBelow m f × IsValueBelow m r × (derived < m) × IsActBelow m k
+IsOperationBelow m (PromiseThen p f r k) = IsValueBelow m f × IsValueBelow m r × Later m AThing k
+IsOperationBelow m (RunJob job) = IsJobBelow m job
+IsOperationBelow m RunFirstJob = Unit {0}
