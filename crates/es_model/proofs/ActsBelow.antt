@@ -5,10 +5,10 @@ use Rattle.js_value.specs.NumberText.{number_of_text}
 use Rattle.js_value.specs.Value.{Value, Undefined, Null, Boolean, Number, String, Object, is_object, Text, same_text, Key, Index, Named, Numeral, text_of_key}
 use Rattle.js_value.specs.Store.{Property, Content, Data, Accessor, callable_class, length_name}
 use Rattle.js_value.specs.Literal.{digits_number}
-use Rattle.js_value.specs.Order.{IsText, IsKey, IsOrderly}
+use Rattle.js_value.specs.Order.{IsString, IsKey, IsOrderly}
 use Rattle.js_value.specs.WellFormed.{IsValueBelow, IsContentBelow, IsObjectBelow}
 use Rattle.js_value.proofs.Keys.{key_of_text_is_key, key_of_number_is_key}
-use Rattle.js_value.proofs.Profile.{is_text, text_tested, text_of_number_is_text, number_of_text_is_number, unit_of_text}
+use Rattle.js_value.proofs.Profile.{is_string, string_tested, text_of_number_is_string, number_of_text_is_number, unit_of_text}
 use Rattle.js_value.proofs.Below.{value_more, values_more, if_value_more, content_more, reaction_more, state_more, thing_more, if_number_more}
 use Rattle.es_model.specs.Messages.{Message, NumberOutOfRange, StringTooLong, InvalidArrayLength, InvalidArgument, NotDefined, NotInitialised, EmptyArray, SuperCalledTwice, AssignmentToConstant, NotAFunction, NotAConstructor, CalledWithoutNew, NoProperties, NotWritable, NotDefinable, NotDeletable, NotAnObject, NoPrimitiveValue, PrimitiveExpected, AccessorOnIndex, PrototypeNotSettable, ResolvedWithItself, WrongReceiver, ReturnedPrimitive, text_of_message}
 use Rattle.es_model.specs.State.{Job, FulfilJob, RejectJob, ThenableJob}
@@ -19,7 +19,7 @@ use Rattle.es_model.specs.Errors.{make_error, raise, make_text, message_name, er
 use Rattle.es_model.specs.PropertyReads.{is_callable, call_getter, content_value, property_value, get, has_property, inherited, StringProperty, AUnit, Length, Inherits, string_unit, string_property, string_value, get_v}
 use Rattle.es_model.specs.Conversions.{Hint, DefaultHint, NumberHint, StringHint, primitive_by, to_primitive, number_of_primitive, number_or_raise, to_number, text_of_primitive, to_string, key_of_primitive, to_property_key, primitive_expected, number_expected, text_expected, key_expected}
 use Rattle.es_model.specs.Laws.{IsMethodBelow, IsJobBelow, IsDeedBelow, IsQuestionBelow, IsCompletionBelow, IsActBelow}
-use Rattle.es_model.specs.Operations.{Later, AnyBool, ANumber, AText, AKey, AThing}
+use Rattle.es_model.specs.Operations.{Later, AnyBool, ANumber, AString, AKey, AThing}
 
 pub later_more : {T : Type 0} (m n : ℕ) (B : ℕ → T → Type 0) (k : T → Act) → m ≤ n → Later m B k → Later n B k
 later_more m n B k le h = λ i l x b. h i (le_trans le l) x b
@@ -110,15 +110,15 @@ cond_below m false p q h g = g
 
 error_orderly : (prototype : ℕ) (text : Text) → IsOrderly (error_record prototype text)
 unfolding digits_number
-error_orderly prototype text = record { indices = tt; range = tt; length = tt; names = (record { text = text_tested message_name refl; no_index = refl }, tt); distinct = (refl, tt); no_length = tt }
+error_orderly prototype text = record { indices = tt; range = tt; length = tt; names = (record { text = string_tested message_name refl; no_index = refl }, tt); distinct = (refl, tt); no_length = tt }
 
-error_below : (m prototype : ℕ) (text : Text) → prototype < m → IsText text → IsObjectBelow m (error_record prototype text)
+error_below : (m prototype : ℕ) (text : Text) → prototype < m → IsString text → IsObjectBelow m (error_record prototype text)
 error_below m prototype text l t = record { class = tt; prototype = l; indexed = tt; named = (t, tt) }
 
-message_is_text : (e : Message) → IsText (text_of_message e)
-message_is_text e = text_tested (text_of_message e) (tested e)
+message_is_string : (e : Message) → IsString (text_of_message e)
+message_is_string e = string_tested (text_of_message e) (tested e)
   where
-    tested : (e : Message) → is_text (text_of_message e) ≡ true
+    tested : (e : Message) → is_string (text_of_message e) ≡ true
     tested NumberOutOfRange = refl
     tested StringTooLong = refl
     tested InvalidArrayLength = refl
@@ -146,13 +146,13 @@ message_is_text e = text_tested (text_of_message e) (tested e)
 
 pub make_error_below : (m : ℕ) (e : Message) (k : ℕ → Act) → Later m AThing k → IsActBelow m (make_error e k)
 unfolding make_error
-make_error_below m e k h = (tt, λ n l p b. ((error_below n p (text_of_message e) b (message_is_text e), error_orderly p (text_of_message e)), λ i j a c. h i (le_trans l j) a c))
+make_error_below m e k h = (tt, λ n l p b. ((error_below n p (text_of_message e) b (message_is_string e), error_orderly p (text_of_message e)), λ i j a c. h i (le_trans l j) a c))
 
 pub raise_below : (m : ℕ) (e : Message) → IsActBelow m (raise e)
 unfolding raise
 raise_below m e = make_error_below m e _ (λ n l a b. b)
 
-pub make_text_below : (m : ℕ) (t : Text) (k : Value → Act) → IsText t → Later m IsValueBelow k → IsActBelow m (make_text t k)
+pub make_text_below : (m : ℕ) (t : Text) (k : Value → Act) → IsString t → Later m IsValueBelow k → IsActBelow m (make_text t k)
 unfolding make_text
 make_text_below m t k x h = cond_below m (nat_lt longest_text (length t)) (raise StringTooLong) (Do (MakeText (length t)) (λ _. k (String t))) (raise_below m StringTooLong) (tt, λ n l a b. h n l (String t) x)
 
@@ -201,7 +201,7 @@ IsUnit : StringProperty → Type 0
 IsUnit (AUnit u) = u < 65536
 IsUnit p = Unit {0}
 
-property_is_unit : (t : Text) (key : Key) → IsText t → IsUnit (string_property t key)
+property_is_unit : (t : Text) (key : Key) → IsString t → IsUnit (string_property t key)
 unfolding IsUnit
 property_is_unit t (Index i) x = at (slice_get t i) (unit_of_text t i x.units)
   where
@@ -219,7 +219,7 @@ property_is_unit t (Numeral z) x = by_test (same_text (text_of_key (Numeral z)) 
     by_test true = tt
     by_test false = tt
 
-string_value_below : (m : ℕ) (t : Text) (p : StringProperty) (key : Key) (k : Value → Act) → IsText t → IsUnit p → Later m IsValueBelow k → IsActBelow m (string_value t p key k)
+string_value_below : (m : ℕ) (t : Text) (p : StringProperty) (key : Key) (k : Value → Act) → IsString t → IsUnit p → Later m IsValueBelow k → IsActBelow m (string_value t p key k)
 unfolding IsUnit
 string_value_below m t (AUnit u) key k x i h = make_text_below m (u ∷ []) k (record { units = (i, tt); bound = lit≤ tt }) h
 string_value_below m t Length key k x i h = h m (le_refl m) (Number (pos (length t))) (record { bound = x.bound })
@@ -267,22 +267,22 @@ primitive_is_number m (String t) b = by_text (number_of_text t) (number_of_text_
 primitive_is_number m Undefined b = tt
 primitive_is_number m (Object n) b = tt
 
-primitive_is_text : (m : ℕ) (p : Value) → IsValueBelow m p → IsText (text_of_primitive p)
-primitive_is_text m Undefined b = text_tested (codes "undefined") refl
-primitive_is_text m Null b = text_tested (codes "null") refl
-primitive_is_text m (Boolean true) b = text_tested (codes "true") refl
-primitive_is_text m (Boolean false) b = text_tested (codes "false") refl
-primitive_is_text m (Number n) b = text_of_number_is_text n
-primitive_is_text m (String t) b = b
-primitive_is_text m (Object n) b = text_tested [] refl
+primitive_is_string : (m : ℕ) (p : Value) → IsValueBelow m p → IsString (text_of_primitive p)
+primitive_is_string m Undefined b = string_tested (codes "undefined") refl
+primitive_is_string m Null b = string_tested (codes "null") refl
+primitive_is_string m (Boolean true) b = string_tested (codes "true") refl
+primitive_is_string m (Boolean false) b = string_tested (codes "false") refl
+primitive_is_string m (Number n) b = text_of_number_is_string n
+primitive_is_string m (String t) b = b
+primitive_is_string m (Object n) b = string_tested [] refl
 
 primitive_is_key : (m : ℕ) (p : Value) → IsValueBelow m p → IsKey (key_of_primitive p)
-primitive_is_key m Undefined b = key_of_text_is_key (codes "undefined") (primitive_is_text m Undefined b)
-primitive_is_key m Null b = key_of_text_is_key (codes "null") (primitive_is_text m Null b)
-primitive_is_key m (Boolean c) b = key_of_text_is_key (text_of_primitive (Boolean c)) (primitive_is_text m (Boolean c) b)
+primitive_is_key m Undefined b = key_of_text_is_key (codes "undefined") (primitive_is_string m Undefined b)
+primitive_is_key m Null b = key_of_text_is_key (codes "null") (primitive_is_string m Null b)
+primitive_is_key m (Boolean c) b = key_of_text_is_key (text_of_primitive (Boolean c)) (primitive_is_string m (Boolean c) b)
 primitive_is_key m (Number n) b = key_of_number_is_key n b
 primitive_is_key m (String t) b = key_of_text_is_key t b
-primitive_is_key m (Object n) b = key_of_text_is_key [] (primitive_is_text m (Object n) b)
+primitive_is_key m (Object n) b = key_of_text_is_key [] (primitive_is_string m (Object n) b)
 
 number_or_raise_below : (m : ℕ) (n : Option ℤ) (k : ℤ → Act) → IfSome n IsNumber → Later m ANumber k → IsActBelow m (number_or_raise n k)
 number_or_raise_below m None k b h = raise_below m NumberOutOfRange
@@ -292,9 +292,9 @@ pub to_number_below : (m : ℕ) (v : Value) (k : ℤ → Act) → IsValueBelow m
 unfolding to_number
 to_number_below m v k b h = to_primitive_below m NumberHint v _ b (λ n l p c. number_or_raise_below n (number_of_primitive p) k (primitive_is_number n p c) (later_more m n ANumber k l h))
 
-pub to_string_below : (m : ℕ) (v : Value) (k : Text → Act) → IsValueBelow m v → Later m AText k → IsActBelow m (to_string v k)
+pub to_string_below : (m : ℕ) (v : Value) (k : Text → Act) → IsValueBelow m v → Later m AString k → IsActBelow m (to_string v k)
 unfolding to_string
-to_string_below m v k b h = to_primitive_below m StringHint v _ b (λ n l p c. h n l (text_of_primitive p) (primitive_is_text n p c))
+to_string_below m v k b h = to_primitive_below m StringHint v _ b (λ n l p c. h n l (text_of_primitive p) (primitive_is_string n p c))
 
 pub to_property_key_below : (m : ℕ) (v : Value) (k : Key → Act) → IsValueBelow m v → Later m AKey k → IsActBelow m (to_property_key v k)
 unfolding to_property_key
@@ -314,9 +314,9 @@ pub number_expected_below : (m : ℕ) (v : Value) (k : ℤ → Act) → IsValueB
 unfolding number_expected
 number_expected_below m v k b h = primitive_expected_below m v _ b (λ n l p c. number_or_raise_below n (number_of_primitive p) k (primitive_is_number n p c) (later_more m n ANumber k l h))
 
-pub text_expected_below : (m : ℕ) (v : Value) (k : Text → Act) → IsValueBelow m v → Later m AText k → IsActBelow m (text_expected v k)
+pub text_expected_below : (m : ℕ) (v : Value) (k : Text → Act) → IsValueBelow m v → Later m AString k → IsActBelow m (text_expected v k)
 unfolding text_expected
-text_expected_below m v k b h = primitive_expected_below m v _ b (λ n l p c. h n l (text_of_primitive p) (primitive_is_text n p c))
+text_expected_below m v k b h = primitive_expected_below m v _ b (λ n l p c. h n l (text_of_primitive p) (primitive_is_string n p c))
 
 pub key_expected_below : (m : ℕ) (v : Value) (k : Key → Act) → IsValueBelow m v → Later m AKey k → IsActBelow m (key_expected v k)
 unfolding key_expected

@@ -6,7 +6,7 @@ use Rattle.js_value.specs.Literal.{digits_number}
 use Rattle.js_value.specs.Order.{IsOrderly}
 use Rattle.js_value.specs.WellFormed.{IsValueBelow, IsClassBelow, AreReactionsBelow, IsObjectBelow}
 use Rattle.js_value.proofs.Below.{value_more, reactions_more}
-use Rattle.js_value.proofs.Profile.{text_tested}
+use Rattle.js_value.proofs.Profile.{string_tested}
 use Rattle.es_model.specs.Equality.{same_value}
 use Rattle.es_model.specs.Messages.{ResolvedWithItself}
 use Rattle.es_model.specs.State.{Job, FulfilJob, RejectJob, ThenableJob}
@@ -77,10 +77,10 @@ resolve_below m p v k q b h =
 function_orderly : (c : Class) (prototype : ℕ) → ((n : ℕ) (w : Bool) → c ≡ Array n w → ⊥) → IsOrderly (resolving_function c prototype)
 unfolding digits_number
 function_orderly (Array n w) prototype never = absurd (never n w refl)
-function_orderly c prototype never = record { indices = tt; range = tt; length = tt; names = (record { text = text_tested length_name refl; no_index = refl }, (record { text = text_tested (codes "name") refl; no_index = refl }, tt)); distinct = (refl, (refl, tt)); no_length = tt }
+function_orderly c prototype never = record { indices = tt; range = tt; length = tt; names = (record { text = string_tested length_name refl; no_index = refl }, (record { text = string_tested (codes "name") refl; no_index = refl }, tt)); distinct = (refl, (refl, tt)); no_length = tt }
 
 function_below : (m : ℕ) (c : Class) (prototype : ℕ) → prototype < m → IsClassBelow m c → IsObjectBelow m (resolving_function c prototype)
-function_below m c prototype l b = record { class = b; prototype = l; indexed = tt; named = (record { bound = lit≤ tt }, (text_tested [] refl, tt)) }
+function_below m c prototype l b = record { class = b; prototype = l; indexed = tt; named = (record { bound = lit≤ tt }, (string_tested [] refl, tt)) }
 
 pub create_functions_below : (m p : ℕ) (k : (mark resolve reject : ℕ) → Act) → p < m → ((n : ℕ) → m ≤ n → (a b c : ℕ) → a < n → b < n → c < n → IsActBelow n (k a b c)) → IsActBelow m (create_resolving_functions p k)
 unfolding create_resolving_functions

@@ -6,7 +6,7 @@ use Rattle.js_value.specs.Literal.{digits_number}
 use Rattle.js_value.specs.Order.{IsName, IsOrderly}
 use Rattle.js_value.specs.WellFormed.{IfValueBelow, AreNumbersBelow, IsContentBelow, IsStateBelow, IsReactionBelow, AreReactionsBelow, IsClassBelow, IsObjectBelow, IsThingBelow, IsThingOrderly, ChainEnds, Ended, Next, IsWellFormed}
 use Rattle.js_value.proofs.Below.{value_more, object_more, if_value_more, numbers_more}
-use Rattle.js_value.proofs.Profile.{text_tested}
+use Rattle.js_value.proofs.Profile.{string_tested}
 use Rattle.es_model.specs.State.{World, Ledger, Counts, plus, nothing, some_slots, some_units, ModuleState, Job, FulfilJob, RejectJob, ThenableJob}
 use Rattle.es_model.specs.Ledger.{Happens, Full, charged, charged_unless, passed, written, with_thing, first_cost, with_name, name_added, name_cost, growth}
 use Rattle.es_model.specs.InternalMethods.{Method, DefineOwnProperty, Delete, PreventExtensions, SetPrototypeOf, Freeze, apply_method, set_prototype_of, same_prototype, on_chain, longest, refused, unchanged, wrote, prevent_extensions, freeze}
@@ -240,7 +240,7 @@ pointing_below m p (Accessor g s) l h = h
 
 prototype_name_is : IsName prototype_name
 unfolding digits_number
-prototype_name_is = record { text = text_tested prototype_name refl; no_index = refl }
+prototype_name_is = record { text = string_tested prototype_name refl; no_index = refl }
 
 with_prototype_orderly : (p : ℕ) (o : ObjectRecord) (q : Option Property) → IsOrderly o → IsOrderly (with_prototype p o q)
 with_prototype_orderly p o None h = h

@@ -3,7 +3,7 @@ use Rattle.std.proofs.Common.{ℕ, zero, suc, ◌≤◌, Bool, true, false, not,
 use Rattle.std.proofs.lemmas.Bool.Decides.{nat_tests}
 use Rattle.js_value.specs.Value.{Value, Undefined, Null, Boolean, Number, String, Object, Text, Key, is_index, text_of_key}
 use Rattle.js_value.specs.Store.{Property, is_length_of}
-use Rattle.js_value.specs.Order.{IsText, IsKey}
+use Rattle.js_value.specs.Order.{IsString, IsKey}
 use Rattle.js_value.specs.WellFormed.{IsValueBelow, IfValueBelow, IsContentBelow}
 use Rattle.js_value.proofs.Below.{value_more, if_value_more}
 use Rattle.es_model.specs.Equality.{is_strictly_equal}
@@ -117,7 +117,7 @@ ordinary_set_below convert c m o key v receiver k i b r h = (tt, λ n l p f. set
 set_inherited_below : (convert : NumberConversion) → IsConversionBelow convert → (m place : ℕ) (key : Key) (v receiver : Value) (k : Bool → Act) → IsKey key → IsValueBelow m v → IsValueBelow m receiver → Later m AnyBool k → IsActBelow m (set_inherited convert place key v receiver k)
 set_inherited_below convert c m place key v receiver k i b r h = (tt, λ n l p f. ordinary_set_below convert c n p key v receiver k i (value_more m n l v b) (value_more m n l receiver r) (later_more m n AnyBool k l h))
 
-set_string_below : (convert : NumberConversion) → IsConversionBelow convert → (m : ℕ) (p : StringProperty) (t : Text) (key : Key) (v : Value) (k : Bool → Act) → IsKey key → IsText t → IsValueBelow m v → Later m AnyBool k → IsActBelow m (set_on_string p convert t key v k)
+set_string_below : (convert : NumberConversion) → IsConversionBelow convert → (m : ℕ) (p : StringProperty) (t : Text) (key : Key) (v : Value) (k : Bool → Act) → IsKey key → IsString t → IsValueBelow m v → Later m AnyBool k → IsActBelow m (set_on_string p convert t key v k)
 set_string_below convert c m Inherits t key v k i a b h = set_inherited_below convert c m 11 key v (String t) k i b a h
 set_string_below convert c m (AUnit u) t key v k i a b h = h m (le_refl m) false tt
 set_string_below convert c m Length t key v k i a b h = h m (le_refl m) false tt

@@ -4,7 +4,7 @@ use Rattle.std.specs.Prelude.{ℕ, ◌≤◌, ◌<◌, Bool, ℤ, Option, IfSome
 use Rattle.js_value.specs.Number.{IsNumber}
 use Rattle.js_value.specs.Value.{Value, Text, Key}
 use Rattle.js_value.specs.Store.{Property}
-use Rattle.js_value.specs.Order.{IsText, IsKey}
+use Rattle.js_value.specs.Order.{IsString, IsKey}
 use Rattle.js_value.specs.WellFormed.{IsValueBelow, IsContentBelow}
 use Rattle.es_model.specs.State.{Job}
 use Rattle.es_model.specs.InternalMethods.{PropertyDescriptor}
@@ -126,8 +126,8 @@ AnyBool n b = Unit {0}
 abbrev pub ANumber : ℕ → ℤ → Type 0
 ANumber n z = IsNumber z
 
-abbrev pub AText : ℕ → Text → Type 0
-AText n t = IsText t
+abbrev pub AString : ℕ → Text → Type 0
+AString n t = IsString t
 
 abbrev pub AKey : ℕ → Key → Type 0
 AKey n key = IsKey key
@@ -146,13 +146,13 @@ IfPropertyBelow m p = IfSome p (λ q. IsContentBelow m q.content)
 abbrev pub IsOperationBelow : ℕ → Operation → Type 0
 IsOperationBelow m (Raise e) = Unit {0}
 IsOperationBelow m (MakeError e k) = Later m AThing k
-IsOperationBelow m (MakeString t k) = IsText t × Later m IsValueBelow k
+IsOperationBelow m (MakeString t k) = IsString t × Later m IsValueBelow k
 IsOperationBelow m (ToPrimitive hint v k) = IsValueBelow m v × Later m IsValueBelow k
 IsOperationBelow m (ToNumber v k) = IsValueBelow m v × Later m ANumber k
-IsOperationBelow m (ToString v k) = IsValueBelow m v × Later m AText k
+IsOperationBelow m (ToString v k) = IsValueBelow m v × Later m AString k
 IsOperationBelow m (ToPropertyKey v k) = IsValueBelow m v × Later m AKey k
 IsOperationBelow m (NumberExpected v k) = IsValueBelow m v × Later m ANumber k
-IsOperationBelow m (TextExpected v k) = IsValueBelow m v × Later m AText k
+IsOperationBelow m (TextExpected v k) = IsValueBelow m v × Later m AString k
 IsOperationBelow m (KeyExpected v k) = IsValueBelow m v × Later m AKey k
 IsOperationBelow m (IsLooselyEqual x y k) = IsValueBelow m x × IsValueBelow m y × Later m AnyBool k
 IsOperationBelow m (IsCallable v k) = Later m AnyBool k

@@ -8,9 +8,9 @@ use Rattle.js_value.specs.Number.{IsNumber, greatest}
 use Rattle.js_value.specs.NumberText.{index_of_text, index_in_range, text_of_number}
 use Rattle.js_value.specs.Literal.{digits_number}
 use Rattle.js_value.specs.Value.{Text, Index, Numeral, key_by, key_of_text, key_of_number}
-use Rattle.js_value.specs.Order.{IsText, IsName, IsKey}
+use Rattle.js_value.specs.Order.{IsString, IsName, IsKey}
 use Rattle.js_value.proofs.Reading.{number_none_other, number_some}
-use Rattle.js_value.proofs.Profile.{text_of_number_is_text}
+use Rattle.js_value.proofs.Profile.{text_of_number_is_string}
 
 range_of : (us : Text) (o : Option ℕ) (i : ℕ) → index_in_range us o ≡ Some i → i < 4294967295
 range_of us None i e = absurd (cc)
@@ -21,7 +21,7 @@ range_of us (Some n) i e = by_tests (nat_lt n 4294967295) (bytes_eq (text_of_num
     by_tests true false q f = absurd (cc)
     by_tests false b q f = absurd (cc)
 
-pub key_of_text_is_key : (t : Text) → IsText t → IsKey (key_of_text t)
+pub key_of_text_is_key : (t : Text) → IsString t → IsKey (key_of_text t)
 key_of_text_is_key t h = by_index (index_of_text t) refl
   where
     by_index : (o : Option ℕ) → index_of_text t ≡ o → IsKey (key_by t o)
@@ -29,7 +29,7 @@ key_of_text_is_key t h = by_index (index_of_text t) refl
     by_index (Some i) e = range_of t (digits_number 10 t) i e
 
 numeral_is_name : (z : ℤ) → index_of_text (text_of_number z) ≡ None → IsName (text_of_number z)
-numeral_is_name z e = record { text = text_of_number_is_text z; no_index = e }
+numeral_is_name z e = record { text = text_of_number_is_string z; no_index = e }
 
 key_of_negative_is_key : (n : ℕ) → IsKey (key_of_number (negsuc n))
 key_of_negative_is_key n = numeral_is_name (negsuc n) (ap (index_in_range (text_of_number (negsuc n))) (number_none_other 10 (text_of_number (negsuc n)) 0 (zero-lt-suc _) (lit≤ tt)))

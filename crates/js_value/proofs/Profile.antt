@@ -5,7 +5,7 @@ use Rattle.std.proofs.lemmas.Bool.Decides.{nat_tests}
 use Rattle.js_value.specs.Number.{IsNumber, greatest}
 use Rattle.js_value.specs.NumberText.{text_of_number, number_of_text}
 use Rattle.js_value.specs.Value.{Text}
-use Rattle.js_value.specs.Order.{AreUnits, IsText}
+use Rattle.js_value.specs.Order.{AreUnits, IsString}
 use Rattle.js_value.proofs.Ascii.{and_left, and_right}
 use Rattle.js_value.proofs.Indices.{num_is_number}
 use Rattle.js_value.proofs.NumberTexts.{number_of_text_spells}
@@ -16,8 +16,8 @@ abbrev pub are_units : Text → Bool
 are_units [] = true
 are_units (u ∷ us) = nat_lt u 65536 && are_units us
 
-abbrev pub is_text : Text → Bool
-is_text t = are_units t && nat_le (length t) greatest
+abbrev pub is_string : Text → Bool
+is_string t = are_units t && nat_le (length t) greatest
 
 units_tested : (t : Text) → are_units t ≡ true → AreUnits t
 units_tested [] e = tt
@@ -26,8 +26,8 @@ units_tested (u ∷ us) e = (small u (and_left (nat_lt u 65536) (are_units us) e
     small : (n : ℕ) → nat_lt n 65536 ≡ true → n < 65536
     small n q = grind (arith, nat_tests)
 
-pub text_tested : (t : Text) → is_text t ≡ true → IsText t
-text_tested t e = record {
+pub string_tested : (t : Text) → is_string t ≡ true → IsString t
+string_tested t e = record {
   units = units_tested t (and_left (are_units t) (nat_le (length t) greatest) e);
   bound = short (length t) (and_right (are_units t) (nat_le (length t) greatest) e);
 }
@@ -61,9 +61,9 @@ digits_bound (suc k) n us = by_test (n / 10 == 0) (digits_bound k (n / 10) (digi
     by_test true l = omega arith
     by_test false l = omega arith
 
-pub text_of_number_is_text : (z : ℤ) → IsText (text_of_number z)
-text_of_number_is_text (pos n) = record { units = digits_units 64 n [] tt; bound = let l = digits_bound 64 n [] in omega arith }
-text_of_number_is_text (negsuc n) = record { units = (omega arith, digits_units 64 (suc n) [] tt); bound = let l = digits_bound 64 (suc n) [] in omega arith }
+pub text_of_number_is_string : (z : ℤ) → IsString (text_of_number z)
+text_of_number_is_string (pos n) = record { units = digits_units 64 n [] tt; bound = let l = digits_bound 64 n [] in omega arith }
+text_of_number_is_string (negsuc n) = record { units = (omega arith, digits_units 64 (suc n) [] tt); bound = let l = digits_bound 64 (suc n) [] in omega arith }
 
 -- ---- a text's number, and its units
 

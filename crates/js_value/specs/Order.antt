@@ -11,7 +11,7 @@ abbrev pub AreUnits : Text → Type 0
 AreUnits [] = Unit {0}
 AreUnits (u ∷ us) = (u < 65536) × AreUnits us
 
-pub record IsText (t : Text) : Type 0 where
+pub record IsString (t : Text) : Type 0 where
   pub units : AreUnits t
   pub bound : length t ≤ greatest
 
@@ -19,7 +19,7 @@ pub record IsText (t : Text) : Type 0 where
 
 -- a String that is no array index
 pub record IsName (t : Text) : Type 0 where
-  pub text : IsText t
+  pub text : IsString t
   pub no_index : index_of_text t ≡ None
 
 -- array indices end below 2 ^ 32 - 1, and no other key is an index's text

@@ -4,13 +4,13 @@ use Rattle.std.specs.Prelude.{ℕ, ◌<◌, List, [], ◌∷◌, length, Option,
 use Rattle.js_value.specs.Number.{IsNumber}
 use Rattle.js_value.specs.Value.{Value, Number, String, Object}
 use Rattle.js_value.specs.Store.{Content, Data, Accessor, Property, PromiseState, Pending, Fulfilled, Rejected, Reaction, Class, ScriptFunction, ResolveFunction, RejectFunction, Promise, ObjectRecord, Thing, AnObject, ACell, AMark, Store, object_in, cell_in}
-use Rattle.js_value.specs.Order.{IsText, IsOrderly}
+use Rattle.js_value.specs.Order.{IsString, IsOrderly}
 
 -- ---- values of the profile that speak only of things below m, and what holds such values alone
 
 abbrev pub IsValueBelow : ℕ → Value → Type 0
 IsValueBelow m (Number n) = IsNumber n
-IsValueBelow m (String t) = IsText t
+IsValueBelow m (String t) = IsString t
 IsValueBelow m (Object n) = n < m
 IsValueBelow m _ = Unit {0}
 
