@@ -2,6 +2,7 @@ pub mod Begun
 pub mod Chains
 pub mod Edited
 pub mod Linked
+pub mod Marks
 pub mod Tables
 pub mod Walks
 pub mod Written

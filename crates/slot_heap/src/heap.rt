@@ -3,8 +3,8 @@
 ghost use Rattle.std.specs.Prelude.{◌≡◌, ◌⊎◌, ℕ, ◌+◌, ◌-◌, ◌*◌, ◌/◌, ◌<◌, ◌≤◌, ◌^◌, ◌↔◌, ◌++◌, ◌∷◌, [], length, take, drop, get_or, slice_get, slice_index_or, IsTrue, IsErr, IfOk, IfErr, IfSome, OnOk, OnErr, MatchResult, MatchOption, Some, None, true, false, option_map};
 ghost use Rattle.std.specs.List.{All};
 ghost use Prim.Native.Nat.{suc};
-ghost use Rattle.slot_heap.specs.Slot.{blank, is_head_kind};
-ghost use Rattle.slot_heap.specs.Chains.{cell, Chained};
+ghost use Rattle.slot_heap.specs.Slot.{blank};
+ghost use Rattle.slot_heap.specs.Chains.{address, cell, Chained};
 ghost use Rattle.slot_heap.specs.Shown.{all, cells, copy_cost, home, is_thing, left, next_address, Owned, places, Stands, thing};
 ghost use Rattle.slot_heap.specs.Steps.{Added, Made, new_cells, Removed, Replaced};
 ghost use Rattle.slot_heap.specs.Texts.{IsText, NoName, opened, span_of, text_in, Within, word_of};
@@ -91,12 +91,14 @@ impl<'a> Heap<'a> {
         self.slots.first(r)
     }
 
-    /// The slot after one of a thing's slots; None after the last.
+    /// The slot that follows the one at an address; None where none does.
     pub fn next(&self, at: SlotAt) -> Option<SlotAt>
-        requires { (r k : ℕ) × Stands self.now.slots r k at.0 }
+        requires above { 0 < at.0 }
+        requires within { at.0 ≤ length (all self.now.slots) }
+        ensures next { option_map (λ n. n.0) result ≡ address (get_or (all self.now.slots) (at.0 - 1) blank).next }
         ensures along { (r k : ℕ) → Stands self.now.slots r k at.0 → option_map (λ n. n.0) result ≡ slice_get (places self.now.slots r) (suc k) }
         ensures within { IfSome result (λ n. (0 < n.0) × (n.0 ≤ length (all self.now.slots))) }
-        ensures nearer { IfSome result (λ n. left self.now.slots n.0 < left self.now.slots at.0) }
+        ensures nearer { (r k : ℕ) → Stands self.now.slots r k at.0 → IfSome result (λ n. left self.now.slots n.0 < left self.now.slots at.0) }
     {
         self.slots.next(at)
     }
@@ -197,7 +199,6 @@ impl<'a> Heap<'a> {
     pub fn add(&mut self, r: Ref, after: SlotAt, slot: Slot) -> Result<SlotAt, Full>
         requires owned { Owned self.old.slots r.0 }
         requires of_it { (k : ℕ) × Stands self.old.slots r.0 k after.0 }
-        requires part { is_head_kind slot.kind ≡ false }
         ensures full { MatchResult result (λ _. self.old.used.slots + 1 ≤ self.old.limit.slots) (λ e. (e ≡ Full.Slots) × (self.old.limit.slots < self.old.used.slots + 1)) }
         ensures unchanged { OnErr result (self.new ≡ self.old) }
         ensures at { IfOk result (λ at. at.0 ≡ next_address self.old.slots) }
@@ -212,11 +213,11 @@ impl<'a> Heap<'a> {
         Ok(self.slots.link(r, after, slot))
     }
 
-    /// Puts a slot in the place of one of a thing's slots, of a head a head. Its place in the chain
-    /// stays, and of a head the size and the alias number. It costs nothing.
+    /// Puts a slot in the place of one of a thing's slots: key, kind, flags, value and last are the
+    /// new slot's. Its place in the chain stays, and of a thing's first slot also the alias number
+    /// and, where it is an object's head, the size. It costs nothing.
     pub fn put(&mut self, at: SlotAt, slot: Slot)
         requires of_it { (r k : ℕ) × Owned self.old.slots r × Stands self.old.slots r k at.0 }
-        requires kind { is_head_kind slot.kind ≡ is_head_kind (get_or (all self.old.slots) (at.0 - 1) blank).kind }
         ensures replaced { (r k : ℕ) → Stands self.old.slots r k at.0 → Replaced self.old.slots r k slot self.new.slots }
         ensures rest { self.new ≡ record self.old { slots = self.new.slots } }
         ensures reserved { self.new.slots.reserved ≡ self.old.slots.reserved }

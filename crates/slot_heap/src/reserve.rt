@@ -34,7 +34,7 @@ impl Model for Reserve {
 
     ghost view = { λ r. record { room = r.room; aliases = r.aliases; names = r.names } };
 
-    ghost invariant = { λ r. (r.slots ≡ low [] r.room.slots) × (r.texts ≡ words [] [] false 0 0 r.room.units r.room.names) × (r.jobs ≡ record { waiting = []; reserved = r.room.slots / 4 }) };
+    ghost invariant = { λ r. (r.slots ≡ low [] [] r.room.slots) × (r.texts ≡ words [] [] false 0 0 r.room.units r.room.names) × (r.jobs ≡ record { waiting = []; reserved = r.room.slots / 4 }) };
 }
 
 impl Reserve {
@@ -58,7 +58,7 @@ impl Reserve {
 
     // What was reserved.
     pub(crate) fn parts(self) -> (Slots, Texts, Jobs, Room)
-        ensures slots { result.0 ≡ low [] self.room.slots }
+        ensures slots { result.0 ≡ low [] [] self.room.slots }
         ensures texts { result.1 ≡ words [] [] false 0 0 self.room.units self.room.names }
         ensures jobs { result.2 ≡ record { waiting = []; reserved = self.room.slots / 4 } }
         ensures room { result.3 ≡ self.room }
