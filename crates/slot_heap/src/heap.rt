@@ -60,18 +60,6 @@ impl<'a> Heap<'a> {
         }
     }
 
-    /// Gives what every heap keeps to a caller's proof. Runs nothing.
-    pub fn kept(&self)
-        ensures counted { Counted self.now }
-        ensures chained { Chained (thing self.now.slots) (home self.now.slots) (all self.now.slots) }
-        ensures named { All (Within self.now.words.units) self.now.words.names }
-        ensures apart { (n m : ℕ) → n < length self.now.words.names → m < length self.now.words.names → word_of self.now.words n ≡ word_of self.now.words m → n ≡ m }
-        ensures closed { self.now.words.is_open ≡ false → length self.now.words.units ≡ self.now.words.end }
-    {
-        self.slots.chained();
-        self.texts.kept();
-    }
-
     /// What stands at an address.
     pub fn slot(&self, at: SlotAt) -> Slot
         requires above { 0 < at.0 }
@@ -86,6 +74,7 @@ impl<'a> Heap<'a> {
     pub fn first(&self, r: Ref) -> SlotAt
         requires thing { IsTrue (is_thing self.now.slots r.0) }
         ensures stands { Stands self.now.slots r.0 0 result.0 }
+        ensures chained { Chained (thing self.now.slots) (home self.now.slots) (all self.now.slots) }
         ensures within { (0 < result.0) × (result.0 ≤ length (all self.now.slots)) }
     {
         self.slots.first(r)
@@ -128,16 +117,20 @@ impl<'a> Heap<'a> {
         self.texts.find(self.texts.span(text))
     }
 
-    /// How many names stand.
+    /// How many names stand. No two are the same text.
     pub fn names(&self) -> u32
-        ensures { result ≡ length self.now.words.names }
+        ensures count { result ≡ length self.now.words.names }
+        ensures named { All (Within self.now.words.units) self.now.words.names }
+        ensures apart { (n m : ℕ) → n < length self.now.words.names → m < length self.now.words.names → word_of self.now.words n ≡ word_of self.now.words m → n ≡ m }
+        ensures closed { self.now.words.is_open ≡ false → length self.now.words.units ≡ self.now.words.end }
     {
         self.texts.names()
     }
 
     /// What was used since the start or the last restart.
     pub fn used(&self) -> Room
-        ensures { result ≡ self.now.used }
+        ensures used { result ≡ self.now.used }
+        ensures counted { Counted self.now }
     {
         self.used
     }

@@ -94,6 +94,7 @@ impl Slots {
     pub fn first(&self, r: Ref) -> SlotAt
         requires thing { IsTrue (is_thing self.now r.0) }
         ensures stands { Stands self.now r.0 0 result.0 }
+        ensures chained { Chained (thing self.now) (home self.now) (all self.now) }
         ensures within { (0 < result.0) × (result.0 ≤ length (all self.now)) }
     {
         self.chained();
