@@ -16,5 +16,8 @@ pub mod Growth
 pub mod Things
 pub mod Stands
 mod Rows
+pub mod Parts
+pub mod Records
+pub mod Stores
 pub mod Values
 pub mod Uses
