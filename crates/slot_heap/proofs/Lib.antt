@@ -19,5 +19,6 @@ mod Rows
 pub mod Parts
 pub mod Records
 pub mod Stores
+pub mod Makings
 pub mod Values
 pub mod Uses

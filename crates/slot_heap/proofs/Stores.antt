@@ -58,7 +58,7 @@ pub record IsObject (h : Held) (r : ℕ) (head : Slot) (cs : List Slot) : Type 0
   pub cells_are : cells h.slots r ≡ head ∷ cs
   pub object : IsTrue (is_object_kind head.kind)
 
-thing_is : (r : Reading) (head : Slot) (cs : List Slot) → IsTrue (is_object_kind head.kind) → thing_of r (head ∷ cs) ≡ AnObject (object_record r head cs)
+pub thing_is : (r : Reading) (head : Slot) (cs : List Slot) → IsTrue (is_object_kind head.kind) → thing_of r (head ∷ cs) ≡ AnObject (object_record r head cs)
 unfolding thing_of
 thing_is r head cs o = rw o refl
 
