@@ -22,5 +22,6 @@ pub mod Stores
 pub mod Makings
 pub mod Exist
 pub mod Sounds
+pub mod Shapes
 pub mod Values
 pub mod Uses
