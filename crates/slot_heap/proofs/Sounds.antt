@@ -1,15 +1,16 @@
 -- Sound heaps: a started heap is one, and calls that change no slot leave one.
-use Rattle.std.proofs.Common.{◌≡◌, ℕ, suc, zero, ◌<◌, true, false, List, [], ◌∷◌, ◌++◌, refl, ap, sym, ◌∙◌, subst, arith, inl, inr, Some, None}
+use Rattle.std.proofs.Common.{◌≡◌, ℕ, suc, zero, ◌<◌, true, false, List, [], ◌∷◌, ◌++◌, refl, ap, sym, ◌∙◌, subst, arith, Option, Some, None}
 use Rattle.std.specs.List.{All}
-use Rattle.std.specs.Prelude.{IsTrue}
+use Rattle.std.specs.Prelude.{IsTrue, option_to_list}
 use Rattle.std.proofs.lemmas.List.{append-nil}
 use Rattle.std.proofs.lemmas.List.Elements.{All-nil, All-push, All-tail}
 use Rattle.slot_heap.specs.declared.slot.Job.{Job}
 use Rattle.slot_heap.specs.declared.slot.Room.{Room}
 use Rattle.slot_heap.specs.Shown.{Low, low, is_thing, cells, shown}
 use Rattle.slot_heap.specs.Chains.{shown_in}
-use Rattle.slot_heap.specs.Texts.{Within}
-use Rattle.slot_heap.specs.Held.{Held, Lent, NamedAs, no_room, slots_more, started}
+use Rattle.slot_heap.specs.Queue.{Queue}
+use Rattle.slot_heap.specs.Texts.{Within, Words}
+use Rattle.slot_heap.specs.Held.{Held, Lent, no_room, started}
 use Rattle.slot_heap.specs.Flat.{flat}
 use Rattle.slot_heap.specs.Standing.{ValueStands, Standing, Stays}
 use Rattle.slot_heap.specs.Sound.{Sound, IsJob, IsShaped}
@@ -68,35 +69,38 @@ pub sound_restarted : (h h' : Held) (room : Room) → h' ≡ record h { used = n
 sound_restarted h h' room e s =
     sound_words h h' s ([], ap (λ g. g.words.units) e ∙ sym (append-nil _)) ([], ap (λ g. g.words.names) e ∙ sym (append-nil _)) (subst (λ g. All (Within g.words.units) g.words.names) (sym e) s.standing.named) (ap (λ g. g.slots) e) (ap (λ g. g.jobs.waiting) e) (ap (λ g. g.words.is_open) e ∙ s.closed)
 
-pub sound_named : (h h' : Held) (p : ℕ × ℕ) (text : List ℕ) (n : ℕ) → Within h.words.units p → NamedAs h p text n h' → Sound h → Sound h'
-sound_named h h' p text n w (inl a) s = subst Sound (sym a.2) s
-sound_named h h' p text n w (inr a) s =
-    let e = a.2 in
-    sound_words h h' s ([], ap (λ g. g.words.units) e ∙ sym (append-nil _)) (p ∷ [], ap (λ g. g.words.names) e) (subst (λ g. All (Within g.words.units) g.words.names) (sym e) (All-push (Within h.words.units) h.words.names p s.standing.named w)) (ap (λ g. g.slots) e) (ap (λ g. g.jobs.waiting) e) (ap (λ g. g.words.is_open) e ∙ s.closed)
+-- a job is queued, a job is taken
+job_more : (h h' : Held) (job : Job) → h'.slots ≡ h.slots → h'.words.units ≡ h.words.units → h'.words.names ≡ h.words.names → h'.words.is_open ≡ h.words.is_open → h'.jobs.waiting ≡ h.jobs.waiting ++ job ∷ [] → IsJob h.slots job → All (ValueStands h) job.values → Sound h → Sound h'
+job_more h h' job slots units names is_open waits j v s = record {
+  standing = standing_queued h h' job (units, names) slots waits s.standing v;
+  things = same_things h h' slots s;
+  store = subst IsWellFormed (sym (flat_words h h' s.standing (grows_words h h' ([], units ∙ sym (append-nil _)) ([], names ∙ sym (append-nil _)) slots) slots)) s.store;
+  jobs = subst (λ l. All (IsJob l) h'.jobs.waiting) (sym slots) (subst (All (IsJob h.slots)) (sym waits) (All-push (IsJob h.slots) h.jobs.waiting job s.jobs j));
+  closed = is_open ∙ s.closed;
+}
 
-pub sound_queued : (h h' : Held) (job : Job) → h' ≡ record h { jobs = record h.jobs { waiting = h.jobs.waiting ++ job ∷ [] }; used = slots_more h.used 4 } → IsJob h.slots job → All (ValueStands h) job.values → Sound h → Sound h'
-sound_queued h h' job e j v s =
-    let slots : h'.slots ≡ h.slots = ap (λ g. g.slots) e in
-    let waits : h'.jobs.waiting ≡ h.jobs.waiting ++ job ∷ [] = ap (λ g. g.jobs.waiting) e in
-    let units : h'.words.units ≡ h.words.units = ap (λ g. g.words.units) e in
-    let names : h'.words.names ≡ h.words.names = ap (λ g. g.words.names) e in
-    record {
-      standing = standing_queued h h' job (units, names) slots waits s.standing v;
-      things = same_things h h' slots s;
-      store = subst IsWellFormed (sym (flat_words h h' s.standing (grows_words h h' ([], units ∙ sym (append-nil _)) ([], names ∙ sym (append-nil _)) slots) slots)) s.store;
-      jobs = subst (λ l. All (IsJob l) h'.jobs.waiting) (sym slots) (subst (All (IsJob h.slots)) (sym waits) (All-push (IsJob h.slots) h.jobs.waiting job s.jobs j));
-      closed = ap (λ g. g.words.is_open) e ∙ s.closed;
-    }
+job_less : (h h' : Held) (job : Job) → h'.slots ≡ h.slots → h'.words.units ≡ h.words.units → h'.words.names ≡ h.words.names → h'.words.is_open ≡ h.words.is_open → h.jobs.waiting ≡ job ∷ h'.jobs.waiting → Sound h → Sound h'
+job_less h h' job slots units names is_open waits s = record {
+  standing = standing_taken h h' job (units, names) slots waits s.standing;
+  things = same_things h h' slots s;
+  store = subst IsWellFormed (sym (flat_words h h' s.standing (grows_words h h' ([], units ∙ sym (append-nil _)) ([], names ∙ sym (append-nil _)) slots) slots)) s.store;
+  jobs = subst (λ l. All (IsJob l) h'.jobs.waiting) (sym slots) (All-tail (IsJob h.slots) job h'.jobs.waiting (subst (All (IsJob h.slots)) waits s.jobs));
+  closed = is_open ∙ s.closed;
+}
 
-pub sound_taken : (h h' : Held) (job : Job) → h' ≡ record h { jobs = record h.jobs { waiting = h'.jobs.waiting } } → h.jobs.waiting ≡ job ∷ h'.jobs.waiting → Sound h → Sound h'
-sound_taken h h' job e waits s =
-    let slots : h'.slots ≡ h.slots = ap (λ g. g.slots) e in
-    let units : h'.words.units ≡ h.words.units = ap (λ g. g.words.units) e in
-    let names : h'.words.names ≡ h.words.names = ap (λ g. g.words.names) e in
-    record {
-      standing = standing_taken h h' job (units, names) slots waits s.standing;
-      things = same_things h h' slots s;
-      store = subst IsWellFormed (sym (flat_words h h' s.standing (grows_words h h' ([], units ∙ sym (append-nil _)) ([], names ∙ sym (append-nil _)) slots) slots)) s.store;
-      jobs = subst (λ l. All (IsJob l) h'.jobs.waiting) (sym slots) (All-tail (IsJob h.slots) job h'.jobs.waiting (subst (All (IsJob h.slots)) waits s.jobs));
-      closed = ap (λ g. g.words.is_open) e ∙ s.closed;
-    }
+-- ---- what the code leaves
+
+pub new_name_sound : (g h : Held) (w : Words) (u : Room) (p : ℕ × ℕ) → g ≡ h → w ≡ record g.words { names = g.words.names ++ p ∷ [] } → Within g.words.units p → Sound h → Sound (record g { words = w; used = u })
+new_name_sound g h w u p e f i s =
+    let s' = subst Sound (sym e) s in
+    sound_words g (record g { words = w; used = u }) s' ([], ap (λ (x : Words). x.units) f ∙ sym (append-nil _)) (p ∷ [], ap (λ (x : Words). x.names) f) (subst (λ (x : Words). All (Within x.units) x.names) (sym f) (All-push (Within g.words.units) g.words.names p s'.standing.named i)) refl refl (ap (λ (x : Words). x.is_open) f ∙ s'.closed)
+
+pub new_job_sound : (g h : Held) (q : Queue) (u : Room) (job : Job) → g ≡ h → q ≡ record g.jobs { waiting = g.jobs.waiting ++ job ∷ [] } → Sound h → IsJob h.slots job → All (ValueStands h) job.values → Sound (record g { jobs = q; used = u })
+new_job_sound g h q u job e f s j v =
+    job_more g (record g { jobs = q; used = u }) job refl refl refl refl (ap (λ (x : Queue). x.waiting) f) (subst (λ x. IsJob x.slots job) (sym e) j) (subst (λ x. All (ValueStands x) job.values) (sym e) v) (subst Sound (sym e) s)
+
+pub job_taken_sound : (g h : Held) (q : Queue) (o : Option Job) → g ≡ h → g.jobs.waiting ≡ option_to_list o ++ q.waiting → Sound h → Sound (record g { jobs = q })
+job_taken_sound g h q None e f s =
+    let s' = subst Sound (sym e) s in
+    sound_words g (record g { jobs = q }) s' ([], sym (append-nil _)) ([], sym (append-nil _)) s'.standing.named refl (sym f) s'.closed
+job_taken_sound g h q (Some job) e f s = job_less g (record g { jobs = q }) job refl refl refl refl f (subst Sound (sym e) s)

@@ -9,6 +9,8 @@ ghost use Rattle.slot_heap.specs.Shown.{all, cells, copy_cost, home, is_thing, l
 ghost use Rattle.slot_heap.specs.Steps.{Added, Made, new_cells, Removed, Replaced};
 ghost use Rattle.slot_heap.specs.Texts.{IsText, NoName, opened, span_of, text_in, Within, word_of};
 ghost use Rattle.slot_heap.specs.Held.{Counted, full_of, Held, Holds, NamedAs, names_more, no_room, realm_of, slots_more, spare, started, units_more};
+ghost use Rattle.slot_heap.specs.Standing.{ValueStands};
+ghost use Rattle.slot_heap.specs.Sound.{IsJob, Sound};
 
 use super::jobs::Jobs;
 use super::reserve::Reserve;
@@ -47,7 +49,8 @@ impl<'a> Heap<'a> {
         requires names { length rom.names + reserve.room.names < 2 ^ 16 }
         requires slots { length rom.slots + reserve.room.slots < 2 ^ 32 }
         requires units { length rom.units + reserve.room.units < 2 ^ 32 }
-        ensures { result ≡ started rom.entry reserve.room }
+        ensures started { result ≡ started rom.entry reserve.room }
+        ensures sound { Sound result }
     {
         let (slots, texts, jobs, room) = reserve.parts();
         Heap {
@@ -157,7 +160,8 @@ impl<'a> Heap<'a> {
     pub fn restart(&mut self, room: Room)
         requires room { Holds (spare self.old) room }
         requires idle { self.old.jobs.waiting ≡ [] }
-        ensures { self.new ≡ record self.old { used = no_room; limit = room } }
+        ensures restarted { self.new ≡ record self.old { used = no_room; limit = room } }
+        ensures sound { Sound self.old → Sound self.new }
     {
         self.used = NO_ROOM;
         self.limit = room;
@@ -299,6 +303,7 @@ impl<'a> Heap<'a> {
         ensures limit { IfErr result (λ e. e ≡ Full.Names) }
         ensures unchanged { OnErr result (self.new ≡ self.old) }
         ensures named { IfOk result (λ n. NamedAs self.old (span_of self.old.words text) (text_in self.old.words text) n self.new) }
+        ensures sound { Sound self.old → Sound self.new }
     {
         if let Some(number) = self.find_name(text) {
             return Ok(number);
@@ -316,6 +321,7 @@ impl<'a> Heap<'a> {
         ensures full { MatchResult result (λ _. self.old.used.slots + 4 ≤ self.old.limit.slots) (λ e. (e ≡ Full.Slots) × (self.old.limit.slots < self.old.used.slots + 4)) }
         ensures unchanged { OnErr result (self.new ≡ self.old) }
         ensures queued { OnOk result (self.new ≡ record self.old { jobs = record self.old.jobs { waiting = self.old.jobs.waiting ++ job ∷ [] }; used = slots_more self.old.used 4 }) }
+        ensures sound { Sound self.old → IsJob self.old.slots job → All (ValueStands self.old) job.values → Sound self.new }
     {
         if self.limit.slots - self.used.slots < 4 {
             return Err(Full::Slots);
@@ -330,6 +336,7 @@ impl<'a> Heap<'a> {
         ensures taken { MatchOption result (self.old.jobs.waiting ≡ []) (λ job. self.old.jobs.waiting ≡ job ∷ self.new.jobs.waiting) }
         ensures none { result ≡ None → self.new ≡ self.old }
         ensures rest { self.new ≡ record self.old { jobs = record self.old.jobs { waiting = self.new.jobs.waiting } } }
+        ensures sound { Sound self.old → Sound self.new }
     {
         self.jobs.pop()
     }
