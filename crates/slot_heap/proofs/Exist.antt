@@ -1,5 +1,5 @@
 -- Where all that is spoken of stands, the store speaks of things alone that are in it.
-use Rattle.std.proofs.Common.{◌≡◌, ℕ, suc, zero, ◌<◌, ◌≤◌, Bool, true, false, cond, List, [], ◌∷◌, length, get_or, map, refl, ap, sym, ◌∙◌, subst, arith, Option, Some, None}
+use Rattle.std.proofs.Common.{◌≡◌, ℕ, suc, zero, ◌<◌, Bool, true, false, cond, List, [], ◌∷◌, length, get_or, map, refl, ap, arith, Option, Some, None}
 use Rattle.std.specs.List.{All, slice_get}
 use Rattle.std.specs.Prelude.{IsTrue, ◌==◌}
 use Rattle.std.proofs.lemmas.List.{length-map}
@@ -10,15 +10,15 @@ use Rattle.slot_heap.specs.declared.slot.Value.TheVariants as low
 use Rattle.slot_heap.specs.Slot.{blank, is_object_kind, value_in}
 use Rattle.slot_heap.specs.Shown.{shown}
 use Rattle.slot_heap.specs.Held.{Held}
-use Rattle.slot_heap.specs.Reading.{Reading, number_in, word_in, object_or, value_of, bit, upper, lower, is_accessor, is_indexed, content_in, property_in, put_if, named_in, indexed_in, or_zero, number_by, captured_in, parts_in, reactions_in, state_in, built_in, home_in, class_by, class_in, object_record, initialised, thing_of}
+use Rattle.slot_heap.specs.Reading.{Reading, number_in, word_in, object_or, value_of, bit, upper, lower, is_accessor, is_indexed, content_in, property_in, put_if, named_in, indexed_in, or_zero, number_by, captured_in, parts_in, reactions_in, state_in, built_in, home_in, class_in, object_record, initialised, thing_of}
 use Rattle.slot_heap.specs.Flat.{reading, flat}
 use Rattle.slot_heap.specs.Standing.{RefStands, ValueStands, has_name, CellStands, Standing}
 use Rattle.slot_heap.proofs.Ranks.{place_below}
 use Rattle.slot_heap.proofs.Flat.{has_head}
 use Rattle.slot_heap.proofs.Growth.{parts_stand, one_stands}
 use Rattle.slot_heap.proofs.Things.{shown_stands, flat_length}
-use Rattle.js_value.specs.Value.{Value, Undefined, Null, Object}
-use Rattle.js_value.specs.Store.{Store, Content, Data, Accessor, Property, PromiseState, Pending, Fulfilled, Rejected, Class, ObjectRecord, CellRecord, Thing, AnObject, ACell, AMark, as_object, as_cell, no_object, object_in, cell_in}
+use Rattle.js_value.specs.Value.{Value, Undefined, Null}
+use Rattle.js_value.specs.Store.{Store, Data, Accessor, Property, Pending, Fulfilled, Rejected, Class, Thing, AnObject, ACell, AMark, as_object, as_cell, object_in, cell_in}
 use Rattle.js_value.specs.WellFormed.{IsValueBelow, IfValueBelow, IfNumberBelow, AreNumbersBelow, IsContentBelow, ArePropertiesBelow, IsStateBelow, AreReactionsBelow, IsClassBelow, IsObjectBelow, IsThingBelow}
 
 module _ (h : Held) (m : ℕ) (many : m ≡ length (reading h).heads) (some : 0 < m) where

@@ -1,5 +1,5 @@
 -- The store of a heap, and how it changes with the slots.
-use Rattle.std.proofs.Common.{◌≡◌, ℕ, suc, zero, ◌≤◌, inl, inr, false, cond, List, length, map, set, refl, ap, ap₂, sym, ◌∙◌, Some, None}
+use Rattle.std.proofs.Common.{◌≡◌, ℕ, suc, zero, inl, inr, cond, List, length, map, set, refl, ap, ap₂, sym, ◌∙◌, Some, None}
 use Rattle.std.specs.List.{slice_get}
 use Rattle.std.specs.Prelude.{IsTrue}
 use Rattle.std.proofs.lemmas.Bool.{cases_lt}

@@ -1,6 +1,6 @@
 -- What the other calls do to the store: heads are replaced, things are made, texts, names and jobs are added.
-use Rattle.std.proofs.Common.{◌≡◌, ℕ, suc, zero, ◌+◌, ◌*◌, ◌/◌, ◌%◌, inl, inr, Bool, true, false, cond, List, [], ◌∷◌, ◌++◌, length, get_or, replicate, set, refl, ap, ap₂, sym, ◌∙◌, arith, Option, Some, None}
-use Rattle.std.specs.List.{All, slice_get}
+use Rattle.std.proofs.Common.{◌≡◌, ℕ, suc, zero, ◌+◌, ◌*◌, ◌/◌, ◌%◌, inl, inr, Bool, true, false, cond, List, [], ◌∷◌, ◌++◌, get_or, replicate, set, refl, ap, ap₂, sym, ◌∙◌, arith, Option, Some, None}
+use Rattle.std.specs.List.{slice_get}
 use Rattle.std.specs.Prelude.{IsTrue, ◌==◌}
 use Rattle.std.proofs.lemmas.List.{append-nil}
 use Rattle.slot_heap.specs.declared.slot.Slot.{Slot}
@@ -10,7 +10,7 @@ use Rattle.slot_heap.specs.declared.slot.Job.{Job}
 use Rattle.slot_heap.specs.declared.slot.Room.{Room}
 use Rattle.slot_heap.specs.Slot.{blank, byte_of, four_bytes, head_slot, is_object_kind, value_in, stored}
 use Rattle.slot_heap.specs.Chains.{cell}
-use Rattle.slot_heap.specs.Shown.{is_thing, cells, shown}
+use Rattle.slot_heap.specs.Shown.{is_thing, cells}
 use Rattle.slot_heap.specs.Steps.{Replaced, Made, new_cells}
 use Rattle.slot_heap.specs.Held.{Held, NamedAs, no_room, slots_more, units_more}
 use Rattle.slot_heap.specs.Reading.{Reading, number_in, bit, upper, is_indexed, class_by, class_in, object_record, initialised, thing_of}
@@ -22,7 +22,7 @@ use Rattle.slot_heap.proofs.Things.{grows_words, flat_words, grows_made, flat_ma
 use Rattle.slot_heap.proofs.Parts.{part_none, is_captured, is_part, named_is, indexed_is, captured_is, parts_are}
 use Rattle.slot_heap.proofs.Records.{head_put}
 use Rattle.slot_heap.proofs.Stores.{with_object, IsObject, thing_is, object_at}
-use Rattle.js_value.specs.Store.{Store, Property, Class, Ordinary, Array, ScriptFunction, BuiltInFunction, Error, Promise, Pending, ObjectRecord, CellRecord, Thing, AnObject, ACell, AMark, object_in, cell_in, mark_in}
+use Rattle.js_value.specs.Store.{Class, Ordinary, Array, ScriptFunction, BuiltInFunction, Error, Promise, Pending, ObjectRecord, CellRecord, AnObject, ACell, AMark, object_in, cell_in, mark_in}
 
 -- ---- a head is replaced
 
@@ -38,7 +38,7 @@ unfolding thing_of cell
 head_replaced h h' r c head cs w o e a =
     let k : is_object_kind c.kind ≡ true = ap is_object_kind e ∙ o.object in
     let new : thing_of (reading h) (cells h'.slots r) ≡ AnObject (with_head (number_in (reading h) (upper c)) (bit c.flags 1) (object_in (flat h) (number_of h r))) =
-      ap (thing_of (reading h)) (head_cells h h' r c head cs o.cells_are a) ∙ rw k (ap AnObject (head_put (reading h) head c cs o.object e ∙ ap (with_head (number_in (reading h) (upper c)) (bit c.flags 1)) (sym (object_at h r head cs o)))) in
+    ap (thing_of (reading h)) (head_cells h h' r c head cs o.cells_are a) ∙ rw k (ap AnObject (head_put (reading h) head c cs o.object e ∙ ap (with_head (number_in (reading h) (upper c)) (bit c.flags 1)) (sym (object_at h r head cs o)))) in
     (flat_replaced h h' r 0 c w o.thing a).1 ∙ ap (set (flat h) (number_of h r)) new
 
 -- a cell of a captured binding, and a mark, have a head alone

@@ -5,7 +5,7 @@ use Rattle.std.specs.Prelude.{IsTrue, ◌==◌, ◌&&◌, nat_lt}
 use Rattle.std.proofs.lemmas.Bool.{cases_lt, lt-ltb, le-ltb, ne_eqb}
 use Rattle.std.proofs.lemmas.List.{get_or_append_left, get_or_push, get_or_default}
 use Rattle.slot_heap.specs.declared.slot.Slot.{Slot}
-use Rattle.slot_heap.specs.Walk.{IsWalk, Has}
+use Rattle.slot_heap.specs.Walk.{IsWalk}
 use Rattle.slot_heap.specs.Chains.{step_of, chain, Chained}
 use Rattle.slot_heap.specs.Shown.{Low, low, all, thing, home}
 use Rattle.slot_heap.specs.Writes.{with_ram, with_more}

@@ -1,9 +1,9 @@
 -- The parts of a thing: what the cells of one sort say, in order, and how they change with the cells.
-use Rattle.std.proofs.Common.{◌≡◌, ℕ, suc, zero, ◌<◌, Bool, true, false, cond, List, [], ◌∷◌, get_or, replicate, set, refl, ap, sym, ◌∙◌, arith, Some}
+use Rattle.std.proofs.Common.{◌≡◌, ℕ, suc, zero, Bool, true, false, cond, List, [], ◌∷◌, replicate, set, refl, ap, ◌∙◌, Some}
 use Rattle.std.specs.List.{slice_get, insert, remove}
 use Rattle.std.specs.Prelude.{IsTrue, ◌==◌}
 use Rattle.slot_heap.specs.declared.slot.Slot.{Slot}
-use Rattle.slot_heap.specs.Slot.{blank, value_in}
+use Rattle.slot_heap.specs.Slot.{value_in}
 use Rattle.slot_heap.specs.Reading.{Reading, word_in, is_indexed, property_in, put_if, named_in, indexed_in, number_by, captured_in, parts_in}
 use Rattle.slot_heap.specs.Standing.{has_name}
 use Rattle.js_value.specs.Store.{Property}

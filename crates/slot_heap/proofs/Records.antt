@@ -1,15 +1,15 @@
 -- The record of an object when a cell of it changes: each edit changes one field.
-use Rattle.std.proofs.Common.{◌≡◌, ℕ, suc, zero, ◌+◌, ◌*◌, ◌/◌, ◌%◌, ◌<◌, ◌≤◌, ◌⊎◌, inl, inr, Bool, true, false, cond, List, [], ◌∷◌, length, get_or, replicate, set, refl, ap, ap₂, sym, ◌∙◌, arith, Option, Some, None}
+use Rattle.std.proofs.Common.{◌≡◌, ℕ, suc, zero, ◌+◌, ◌*◌, ◌/◌, ◌%◌, ◌<◌, ◌≤◌, ◌⊎◌, inl, inr, Bool, true, false, cond, List, [], ◌∷◌, length, get_or, set, refl, ap, ap₂, sym, ◌∙◌, arith, Some}
 use Rattle.std.specs.List.{slice_get, insert, remove}
 use Rattle.std.specs.Prelude.{IsTrue, ◌==◌}
 use Rattle.std.proofs.lemmas.Bool.{eqb-true}
 use Rattle.slot_heap.specs.declared.slot.Slot.{Slot}
-use Rattle.slot_heap.specs.Slot.{blank, four_bytes, is_object_kind, value_in, stored}
+use Rattle.slot_heap.specs.Slot.{blank, four_bytes, is_object_kind, stored}
 use Rattle.slot_heap.specs.Chains.{cell}
-use Rattle.slot_heap.specs.Reading.{Reading, number_in, bit, upper, lower, is_data, is_accessor, is_indexed, property_in, named_in, indexed_in, number_by, captured_in, parts_in, class_by, class_in, object_record, initialised, thing_of}
+use Rattle.slot_heap.specs.Reading.{Reading, number_in, bit, upper, is_data, is_accessor, is_indexed, named_in, indexed_in, captured_in, parts_in, class_by, class_in, object_record}
 use Rattle.slot_heap.specs.Standing.{has_name}
-use Rattle.slot_heap.proofs.Parts.{part_of, count, part_in, part_out, part_set, part_set_out, part_remove, part_remove_out, is_captured, is_part, named_entry, indexed_entry, named_is, indexed_is, captured_is, parts_are}
-use Rattle.js_value.specs.Store.{Property, Class, ObjectRecord, Thing, AnObject, ACell, AMark}
+use Rattle.slot_heap.proofs.Parts.{count, part_in, part_out, part_set, part_set_out, part_remove, part_remove_out, is_captured, is_part, named_entry, indexed_entry, named_is, indexed_is, captured_is, parts_are}
+use Rattle.js_value.specs.Store.{Property, Class, ObjectRecord}
 
 -- ---- sorts of cells
 

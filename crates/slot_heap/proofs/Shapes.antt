@@ -1,6 +1,6 @@
 -- Things keep their shape while what they speak of keeps its kind; so an edit of one thing leaves a sound heap where it leaves
 -- that thing in shape and the store well-formed.
-use Rattle.std.proofs.Common.{◌≡◌, ◌≢◌, ◌⊎◌, ℕ, suc, zero, Bool, List, [], ◌∷◌, ◌++◌, get_or, refl, ap, sym, ◌∙◌, subst, inl, inr}
+use Rattle.std.proofs.Common.{◌≡◌, ◌≢◌, ◌⊎◌, ℕ, suc, zero, Bool, List, [], ◌∷◌, get_or, ap, sym, ◌∙◌, subst, inl, inr}
 use Rattle.std.specs.List.{All}
 use Rattle.std.specs.Prelude.{IsTrue}
 use Rattle.std.proofs.lemmas.Bool.{cases_eq}
@@ -16,7 +16,7 @@ use Rattle.slot_heap.specs.Held.{Held}
 use Rattle.slot_heap.specs.Reading.{upper, lower}
 use Rattle.slot_heap.specs.Flat.{flat}
 use Rattle.slot_heap.specs.Standing.{Standing}
-use Rattle.slot_heap.specs.Sound.{IsOfKind, OrNone, IsLanguageValue, Refers, IsHandler, IsDataSlot, IsAccessorSlot, IsIndexedSlot, IsLengthSlot, IsCodeSlot, IsCapturedSlot, IsStateSlot, IsPart, AreReactions, NoReaction, Reaction, AreInternals, OfObject, OfArray, OfScript, OfBuiltin, OfResolving, OfError, OfPromise, IsObjectHead, IsCellHead, IsShaped, AnObject, ACell, AMark, IsReactionJob, IsThenableJob, IsJob, Sound}
+use Rattle.slot_heap.specs.Sound.{IsOfKind, OrNone, IsLanguageValue, Refers, IsHandler, IsDataSlot, IsAccessorSlot, IsIndexedSlot, IsCapturedSlot, IsPart, AreReactions, NoReaction, Reaction, AreInternals, OfObject, OfArray, OfScript, OfBuiltin, OfResolving, OfError, OfPromise, IsShaped, AnObject, ACell, AMark, IsReactionJob, IsThenableJob, IsJob, Sound}
 use Rattle.js_value.specs.WellFormed.{IsWellFormed}
 
 -- what stands goes on standing, with its kind

@@ -1,24 +1,24 @@
 -- Sound heaps: a started heap is one, and calls that change no slot leave one.
-use Rattle.std.proofs.Common.{◌≡◌, ℕ, suc, zero, ◌<◌, true, false, List, [], ◌∷◌, ◌++◌, refl, ap, sym, ◌∙◌, subst, arith, Option, Some, None}
+use Rattle.std.proofs.Common.{◌≡◌, ℕ, suc, zero, true, false, List, [], ◌∷◌, ◌++◌, refl, ap, sym, ◌∙◌, subst, arith, Option, Some, None}
 use Rattle.std.specs.List.{All}
 use Rattle.std.specs.Prelude.{IsTrue, option_to_list}
 use Rattle.std.proofs.lemmas.List.{append-nil}
 use Rattle.std.proofs.lemmas.List.Elements.{All-nil, All-push, All-tail}
 use Rattle.slot_heap.specs.declared.slot.Job.{Job}
 use Rattle.slot_heap.specs.declared.slot.Room.{Room}
-use Rattle.slot_heap.specs.Shown.{Low, low, is_thing, cells, shown}
+use Rattle.slot_heap.specs.Shown.{low, is_thing, cells, shown}
 use Rattle.slot_heap.specs.Chains.{shown_in}
 use Rattle.slot_heap.specs.Queue.{Queue}
 use Rattle.slot_heap.specs.Texts.{Within, Words}
 use Rattle.slot_heap.specs.Held.{Held, Lent, no_room, started}
 use Rattle.slot_heap.specs.Flat.{flat}
-use Rattle.slot_heap.specs.Standing.{ValueStands, Standing, Stays}
+use Rattle.slot_heap.specs.Standing.{ValueStands, Stays}
 use Rattle.slot_heap.specs.Sound.{Sound, IsJob, IsShaped}
 use Rattle.slot_heap.proofs.Marks.{no_thing_past}
 use Rattle.slot_heap.proofs.Stands.{standing_words, standing_queued, standing_taken}
 use Rattle.slot_heap.proofs.Things.{grows_words, flat_words}
 use Rattle.js_value.specs.Store.{object_in, cell_in}
-use Rattle.js_value.specs.WellFormed.{ChainEnds, Ended, Next, IsWellFormed}
+use Rattle.js_value.specs.WellFormed.{Ended, Next, IsWellFormed}
 
 -- ---- a started heap
 

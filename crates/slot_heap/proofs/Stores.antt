@@ -1,29 +1,22 @@
 -- What each edit does to the store: one equation for each kind of edit, in the words of the store.
-use Rattle.std.proofs.Common.{◌≡◌, ℕ, suc, zero, ◌+◌, ◌*◌, ◌/◌, ◌%◌, ◌<◌, ◌≤◌, ◌⊎◌, inl, inr, Bool, true, false, cond, List, [], ◌∷◌, ◌++◌, length, get_or, replicate, set, map, refl, ap, ap₂, sym, ◌∙◌, arith, Option, Some, None}
+use Rattle.std.proofs.Common.{◌≡◌, ℕ, suc, zero, ◌<◌, ◌≤◌, false, List, [], ◌∷◌, length, get_or, set, refl, ap, sym, ◌∙◌, arith, Some}
 use Rattle.std.specs.List.{slice_get, insert, remove}
-use Rattle.std.specs.Prelude.{IsTrue, ◌==◌}
+use Rattle.std.specs.Prelude.{IsTrue}
 use Rattle.std.proofs.lemmas.Bool.{ne_eqb}
-use Rattle.std.proofs.lemmas.List.{append-nil}
 use Rattle.slot_heap.specs.declared.slot.Slot.{Slot}
-use Rattle.slot_heap.specs.declared.slot.Kind.{Kind}
-use Rattle.slot_heap.specs.declared.slot.Kind.TheVariants.{Object, Array, Script, Builtin, Error, Promise, Cell, Mark}
-use Rattle.slot_heap.specs.declared.slot.Job.{Job}
-use Rattle.slot_heap.specs.Slot.{blank, byte_of, four_bytes, head_slot, is_object_kind, value_in, stored}
+use Rattle.slot_heap.specs.Slot.{blank, is_object_kind, value_in, stored}
 use Rattle.slot_heap.specs.Chains.{cell}
 use Rattle.slot_heap.specs.Shown.{is_thing, cells, places, Stands}
-use Rattle.slot_heap.specs.Steps.{Added, Replaced, Removed, Made, new_cells}
-use Rattle.slot_heap.specs.Texts.{Words}
+use Rattle.slot_heap.specs.Steps.{Added, Replaced, Removed}
 use Rattle.slot_heap.specs.Held.{Held}
-use Rattle.slot_heap.specs.Reading.{Reading, number_in, value_of, bit, upper, is_data, is_accessor, is_indexed, property_in, named_in, indexed_in, captured_in, parts_in, class_by, class_in, object_record, initialised, thing_of}
-use Rattle.slot_heap.specs.Flat.{reading, number_of, flat, Grows}
-use Rattle.slot_heap.specs.Standing.{has_name, Standing}
-use Rattle.slot_heap.proofs.Chains.{get_or_some}
+use Rattle.slot_heap.specs.Reading.{Reading, is_indexed, property_in, class_in, object_record, thing_of}
+use Rattle.slot_heap.specs.Flat.{reading, number_of, flat}
+use Rattle.slot_heap.specs.Standing.{has_name}
 use Rattle.slot_heap.proofs.Flat.{SameWords, flat_at, flat_added, flat_replaced, flat_removed}
-use Rattle.slot_heap.proofs.Things.{grows_words, flat_words, grows_made, flat_made}
 use Rattle.slot_heap.proofs.Uses.{same_count}
-use Rattle.slot_heap.proofs.Parts.{count, part_none, is_captured, is_part, named_entry, indexed_entry, named_is, indexed_is, captured_is, parts_are}
-use Rattle.slot_heap.proofs.Records.{Behind, named_added, indexed_added, named_put, indexed_put, internal_put, internal_added, internal_cut, named_cut, indexed_cut, head_put}
-use Rattle.js_value.specs.Store.{Store, Property, Class, ObjectRecord, CellRecord, Thing, AnObject, ACell, AMark, object_in, cell_in, mark_in}
+use Rattle.slot_heap.proofs.Parts.{count, named_entry, indexed_entry}
+use Rattle.slot_heap.proofs.Records.{Behind, named_added, indexed_added, named_put, indexed_put, internal_put, internal_added, internal_cut, named_cut, indexed_cut}
+use Rattle.js_value.specs.Store.{Store, Property, Class, ObjectRecord, AnObject, object_in}
 
 -- the store with another record of an object
 abbrev pub with_object : Store → ℕ → (ObjectRecord → ObjectRecord) → Store
