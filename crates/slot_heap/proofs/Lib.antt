@@ -20,6 +20,7 @@ pub mod Parts
 pub mod Records
 pub mod Stores
 pub mod Makings
+pub mod Classes
 pub mod Exist
 pub mod Sounds
 pub mod Shapes
