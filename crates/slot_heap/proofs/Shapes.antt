@@ -69,13 +69,13 @@ module _ (h h' : Low) (k : KindsStay h h') where
   index_stays c s = record { kind = s.kind; tag = s.tag; value = language_stays (value_in c) s.value }
 
   captured_stays : (c : Slot) → IsCapturedSlot h c → IsCapturedSlot h' c
-  captured_stays c s = record { kind = s.kind; cell = refers_stays _ (value_in c) s.cell }
+  captured_stays c s = record { kind = s.kind; tag = s.tag; cell = refers_stays _ (value_in c) s.cell }
 
   part_refers : (kinds : ℕ → Bool) (c : Slot) → IsPart (Refers h kinds) c → IsPart (Refers h' kinds) c
-  part_refers kinds c s = record { kind = s.kind; value = refers_stays kinds (value_in c) s.value }
+  part_refers kinds c s = record { kind = s.kind; tag = s.tag; value = refers_stays kinds (value_in c) s.value }
 
   part_handler : (c : Slot) → IsPart (IsHandler h) c → IsPart (IsHandler h') c
-  part_handler c s = record { kind = s.kind; value = handler_stays (value_in c) s.value }
+  part_handler c s = record { kind = s.kind; tag = s.tag; value = handler_stays (value_in c) s.value }
 
   reactions_stay : (cs : List Slot) → AreReactions h cs → AreReactions h' cs
   reactions_stay _ NoReaction = NoReaction
@@ -88,7 +88,7 @@ module _ (h h' : Low) (k : KindsStay h h') where
   internals_stay _ _ (OfBuiltin c s e) = OfBuiltin c s e
   internals_stay _ _ (OfResolving c a b s e p q) = OfResolving c a b s e (part_refers _ a p) (part_refers _ b q)
   internals_stay _ _ OfError = OfError
-  internals_stay _ _ (OfPromise c cs s rest) = OfPromise c cs (record { kind = s.kind; value = language_stays (value_in c) s.value }) (reactions_stay cs rest)
+  internals_stay _ _ (OfPromise c cs s rest) = OfPromise c cs (record { kind = s.kind; tag = s.tag; one = s.one; pending = s.pending; value = language_stays (value_in c) s.value }) (reactions_stay cs rest)
 
   pub shape_stays : (cs : List Slot) → IsShaped h cs → IsShaped h' cs
   shape_stays _ (AnObject head internals indices strings s i xs ns) =

@@ -1,5 +1,5 @@
 -- Sound heaps: what the operations on properties, the built-ins, the walk and the machine ask for, and leave.
-use Rattle.std.specs.Prelude.{◌≡◌, ◌⊎◌, ℕ, ◌<◌, ◌==◌, ◌||◌, Bool, false, IsTrue, List, [], ◌∷◌, ◌++◌, get_or}
+use Rattle.std.specs.Prelude.{◌≡◌, ◌⊎◌, ℕ, ◌<◌, ◌==◌, ◌||◌, ◌&&◌, Bool, false, IsTrue, List, [], ◌∷◌, ◌++◌, get_or}
 use Prim.Native.Nat.{zero, suc}
 use Rattle.std.specs.List.{All}
 use Rattle.slot_heap.specs.declared.slot.Slot.{Slot}
@@ -86,18 +86,26 @@ pub record IsCodeSlot (h : Low) (c : Slot) : Type 0 where
 
 pub record IsCapturedSlot (h : Low) (c : Slot) : Type 0 where
   pub kind : c.kind ≡ 34
+  pub tag : tag_of c ≡ 7
   pub cell : Refers h is_cell_kind (value_in c)
 
+-- a built-in function's row, from 1 to 92
 pub record IsRowSlot (c : Slot) : Type 0 where
   pub kind : c.kind ≡ 35
   pub tag : tag_of c ≡ 0
+  pub row : (0 < lower c) × (lower c < 93)
 
+-- a promise that is pending holds undefined
 pub record IsStateSlot (h : Low) (c : Slot) : Type 0 where
   pub kind : c.kind ≡ 36
+  pub tag : tag_of c < 8
+  pub one : bit c.flags 1 && bit c.flags 2 ≡ false
+  pub pending : bit c.flags 1 || bit c.flags 2 ≡ false → tag_of c ≡ 0
   pub value : IsLanguageValue h (value_in c)
 
 pub record IsPart (p : Value → Type 0) (c : Slot) : Type 0 where
   pub kind : c.kind ≡ 37
+  pub tag : tag_of c < 8
   pub value : p (value_in c)
 
 -- a promise's reactions: each a derived promise and two handlers
