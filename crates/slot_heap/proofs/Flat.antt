@@ -1,23 +1,18 @@
 -- The store of a heap, and how it changes with the slots.
-use Rattle.std.proofs.Common.{◌≡◌, ℕ, suc, zero, ◌≤◌, inl, inr, false, cond, List, length, map, set, refl, ap, ap₂, sym, ◌∙◌, Some, None}
+use Rattle.std.proofs.Common.{◌≡◌, ℕ, suc, zero, inl, inr, cond, List, length, map, set, refl, ap, ap₂, sym, ◌∙◌, Some, None}
 use Rattle.std.specs.List.{slice_get}
 use Rattle.std.specs.Prelude.{IsTrue}
 use Rattle.std.proofs.lemmas.Bool.{cases_lt}
-use Rattle.std.proofs.lemmas.List.{get_or_past}
 use Rattle.slot_heap.specs.declared.slot.Slot.{Slot}
-use Rattle.slot_heap.specs.Slot.{blank, is_head_kind}
 use Rattle.slot_heap.specs.Walk.{Has}
-use Rattle.slot_heap.specs.Chains.{find, update, head_at, thing_in, shown_in}
+use Rattle.slot_heap.specs.Chains.{find, update, thing_in, shown_in}
 use Rattle.slot_heap.specs.Shown.{Low, all, thing, home, is_thing, cells, shown}
 use Rattle.slot_heap.specs.Steps.{Added, Replaced, Removed}
 use Rattle.slot_heap.specs.Held.{Held}
 use Rattle.slot_heap.specs.Reading.{Reading, place_in, thing_of}
 use Rattle.slot_heap.specs.Flat.{heads_of, reading, number_of, flat}
+use Rattle.slot_heap.proofs.Marks.{no_thing_past}
 use Rattle.slot_heap.proofs.Ranks.{keys, Apart, table_apart, get_ranked, update_ranked, keys_update, find_past, find_table, find_zero, has_key}
-
-no_thing_past : (h : Low) (i : ℕ) → length (all h) ≤ i → thing h i ≡ false
-unfolding thing head_at
-no_thing_past h i l = ap (λ (x : Slot). is_head_kind x.kind) (get_or_past (all h) i blank l)
 
 -- what stands at an address
 pub find_shown : (h : Low) (a : ℕ) → find a (shown h) ≡ cond (is_thing h a) (Some (cells h a)) None

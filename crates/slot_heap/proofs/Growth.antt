@@ -19,6 +19,23 @@ use Rattle.slot_heap.proofs.Flat.{has_head}
 use Rattle.js_value.specs.Value.{Undefined, Null, String}
 use Rattle.js_value.specs.Store.{Content, Data, Accessor, Property, Thing, AnObject, ACell, AMark}
 
+pub parts_stand : (h : Held) (cs : List Slot) → All (CellStands h) cs → All (CellStands h) (parts_in cs)
+parts_stand h [] s = s
+parts_stand h (c ∷ cs) s = put (c.kind == 37) (parts_stand h cs (All-tail (CellStands h) c cs s))
+  where
+    put : (b : Bool) → All (CellStands h) (parts_in cs) → All (CellStands h) (put_if b c (parts_in cs))
+    put true t = All-cons (CellStands h) c (parts_in cs) (All-head (CellStands h) c cs s) t
+    put false t = t
+
+pub blank_stands : (h : Held) → CellStands h blank
+unfolding value_in
+blank_stands h = record { prototype = λ e. absurd (cc); tag = λ e. absurd (cc); key = λ e. absurd (cc); getter = λ e. absurd (cc); last = λ e. absurd (cc); value = tt }
+
+pub one_stands : (h : Held) (cs : List Slot) (k : ℕ) → All (CellStands h) cs → CellStands h (get_or cs k blank)
+one_stands h [] k s = blank_stands h
+one_stands h (c ∷ cs) zero s = All-head (CellStands h) c cs s
+one_stands h (c ∷ cs) (suc k) s = one_stands h cs k (All-tail (CellStands h) c cs s)
+
 module _ (h : Held) (r' : Reading) (g : Grows (reading h) r') (named : All (Within h.words.units) h.words.names) where
   abbrev r : Reading
   r = reading h
@@ -105,23 +122,6 @@ module _ (h : Held) (r' : Reading) (g : Grows (reading h) r') (named : All (With
       let z = value_grows (value_in c) (All-head (CellStands h) c cs s2).value in
       rw (x, y, z) (ap (λ t. reaction_in r a b c ∷ t) (reactions_grow cs (All-tail (CellStands h) c cs s2)))
 
-  parts_stand : (cs : List Slot) → All (CellStands h) cs → All (CellStands h) (parts_in cs)
-  parts_stand [] s = s
-  parts_stand (c ∷ cs) s = put (c.kind == 37) (parts_stand cs (All-tail (CellStands h) c cs s))
-    where
-      put : (b : Bool) → All (CellStands h) (parts_in cs) → All (CellStands h) (put_if b c (parts_in cs))
-      put true t = All-cons (CellStands h) c (parts_in cs) (All-head (CellStands h) c cs s) t
-      put false t = t
-
-  pub blank_stands : CellStands h blank
-  unfolding value_in
-  blank_stands = record { prototype = λ e. absurd (cc); tag = λ e. absurd (cc); key = λ e. absurd (cc); getter = λ e. absurd (cc); last = λ e. absurd (cc); value = tt }
-
-  one_stands : (cs : List Slot) (k : ℕ) → All (CellStands h) cs → CellStands h (get_or cs k blank)
-  one_stands [] k s = blank_stands
-  one_stands (c ∷ cs) zero s = All-head (CellStands h) c cs s
-  one_stands (c ∷ cs) (suc k) s = one_stands cs k (All-tail (CellStands h) c cs s)
-
   home_one : (b : Bool) (c : Slot) → (c.kind == 33) ≡ b → CellStands h c → cond b (number_in r' c.last) None ≡ cond b (number_in r c.last) None
   home_one true c e s = number_grows c.last (s.last (by (is_accessor c) (c.kind == 33) e))
     where
@@ -132,8 +132,8 @@ module _ (h : Held) (r' : Reading) (g : Grows (reading h) r') (named : All (With
 
   class_one : (kind : ℕ) (c : Slot) (captured : List ℕ) (parts : List Slot) → CellStands h c → All (CellStands h) parts → class_by r' kind c captured parts ≡ class_by r kind c captured parts
   class_one kind c captured parts s p =
-      let a = by_grows (value_in (get_or parts 0 blank)) (one_stands parts 0 p).value in
-      let b = by_grows (value_in (get_or parts 1 blank)) (one_stands parts 1 p).value in
+      let a = by_grows (value_in (get_or parts 0 blank)) (one_stands h parts 0 p).value in
+      let b = by_grows (value_in (get_or parts 1 blank)) (one_stands h parts 1 p).value in
       let v = value_grows (value_in c) s.value in
       let q = reactions_grow parts p in
       let l = home_one (c.kind == 33) c refl s in
@@ -142,7 +142,7 @@ module _ (h : Held) (r' : Reading) (g : Grows (reading h) r') (named : All (With
   class_grows : (kind : ℕ) (cs : List Slot) → All (CellStands h) cs → class_in r' kind cs ≡ class_in r kind cs
   unfolding class_in
   class_grows kind cs s =
-      ap (λ ns. class_by r' kind (get_or cs 0 blank) ns (parts_in cs)) (captured_grows cs s) ∙ class_one kind (get_or cs 0 blank) (captured_in r cs) (parts_in cs) (one_stands cs 0 s) (parts_stand cs s)
+      ap (λ ns. class_by r' kind (get_or cs 0 blank) ns (parts_in cs)) (captured_grows cs s) ∙ class_one kind (get_or cs 0 blank) (captured_in r cs) (parts_in cs) (one_stands h cs 0 s) (parts_stand h cs s)
 
   object_one : (b : Bool) (c : Slot) (cs : List Slot) (t : Thing) → is_object_kind c.kind ≡ b → CellStands h c → All (CellStands h) cs → cond b (AnObject (object_record r' c cs)) t ≡ cond b (AnObject (object_record r c cs)) t
   object_one true c cs t e s a =

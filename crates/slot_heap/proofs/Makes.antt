@@ -1,53 +1,41 @@
 -- The heap after a thing is made.
-use Rattle.std.proofs.Common.{◌≡◌, ℕ, suc, zero, ◌+◌, ◌≢◌, inl, inr, true, List, [], ◌∷◌, ◌++◌, length, replicate, map, refl, ap, ap₂, sym, ◌∙◌, arith, Some}
+use Rattle.std.proofs.Common.{◌≡◌, ℕ, suc, zero, ◌+◌, ◌≢◌, true, false, List, [], ◌∷◌, ◌++◌, length, replicate, map, refl, ap, ap₂, sym, ◌∙◌, arith, Some}
 use Rattle.std.specs.List.{slice_get, insert}
 use Rattle.std.specs.Prelude.{IsTrue}
-use Rattle.std.proofs.lemmas.Bool.{cases_lt, eq-eqb}
-use Rattle.std.proofs.lemmas.List.{map-append, get_or_past, get_or_push, get_or_append_left, length_push, length-replicate}
+use Rattle.std.proofs.lemmas.Bool.{eq-eqb}
+use Rattle.std.proofs.lemmas.List.{map-append, length_push, length-replicate}
 use Rattle.std.proofs.lemmas.List.Edits.{length-insert}
 use Rattle.slot_heap.specs.declared.slot.Slot.{Slot}
 use Rattle.slot_heap.specs.declared.slot.Kind.{Kind}
-use Rattle.slot_heap.specs.declared.slot.Kind.TheVariants.{Object, Array, Script, Builtin, Error, Promise, Cell, Mark}
-use Rattle.slot_heap.specs.Slot.{blank, byte_of, head_slot, is_head_kind}
-use Rattle.slot_heap.specs.Chains.{step_of, cell, head_at, update, thing_in, shown_in}
+use Rattle.slot_heap.specs.Slot.{blank, head_slot}
+use Rattle.slot_heap.specs.Chains.{step_of, cell, update, thing_in, shown_in}
 use Rattle.slot_heap.specs.Shown.{Low, low, all, next_address, thing, home, is_thing, places, cells, shown, Owned, Stands}
 use Rattle.slot_heap.specs.Steps.{Added, Made, new_cells}
-use Rattle.slot_heap.specs.Writes.{with_ram}
+use Rattle.slot_heap.specs.Writes.{with_more}
 use Rattle.slot_heap.proofs.Tables.{update_past}
+use Rattle.slot_heap.proofs.Marks.{Marked, no_thing_past, thing_at_more, thing_more}
 use Rattle.slot_heap.proofs.Begun.{Begins, chain_new, chain_old, cells_new, cells_old, shown_begun, chained_begun}
 use Rattle.slot_heap.proofs.Written.{Sound}
 
 -- no slots
-pub sound_none : (reserved : ℕ) → Sound (low [] reserved)
-unfolding thing head_at step_of
-sound_none reserved = record { in_range = λ i. omega arith; within = λ i t. absurd (cc); ends = λ i t. absurd (cc); apart = λ i j k t. absurd (cc) }
-
-head_kind : (kind : Kind) → is_head_kind (byte_of kind) ≡ true
-head_kind Object = refl
-head_kind Array = refl
-head_kind Script = refl
-head_kind Builtin = refl
-head_kind Error = refl
-head_kind Promise = refl
-head_kind Cell = refl
-head_kind Mark = refl
+pub sound_none : (reserved : ℕ) → Sound (low [] [] reserved)
+unfolding step_of
+sound_none reserved = record { in_range = λ i. omega arith; within = λ i t. absurd (none i t); ends = λ i t. absurd (none i t); apart = λ i j k t. absurd (none i t) }
+  where
+    none : (i : ℕ) → IsTrue (thing (low [] [] reserved) i) → ⊥
+    none i t = let e = no_thing_past (low [] [] reserved) i (omega arith) in let f : true ≡ false = sym t ∙ e in absurd (cc)
 
 -- ---- a head
 
-module _ (h : Low) (sound : Sound h) (c : Slot) (ends_here : c.next ≡ 0) (kind : is_head_kind c.kind ≡ true) where
+module _ (h : Low) (sound : Sound h) (c : Slot) (ends_here : c.next ≡ 0) (marked : Marked h) where
   abbrev h' : Low
-  h' = with_ram h (h.ram ++ c ∷ [])
+  h' = with_more h (h.ram ++ c ∷ []) true
 
   head_other : (j : ℕ) → j ≢ length h.ram → thing h' j ≡ thing h j
-  unfolding thing head_at
-  head_other j d = elim (cases_lt j (length h.ram)) [
-    | inl l ↦ ap (λ (x : Slot). is_head_kind x.kind) (get_or_append_left h.ram (c ∷ []) blank j l)
-    | inr l ↦ ap (λ (x : Slot). is_head_kind x.kind) (get_or_past (h.ram ++ c ∷ []) j blank (let e = length_push h.ram c in omega arith) ∙ sym (get_or_past h.ram j blank l))
-  ]
+  head_other j d = thing_more h (all h') true marked (length_push h.ram c ∙ omega arith) j d
 
   head_new : thing h' (length h.ram) ≡ true
-  unfolding thing head_at
-  head_new = ap (λ (x : Slot). is_head_kind x.kind) (get_or_push h.ram c blank (length h.ram) refl) ∙ kind
+  head_new = thing_at_more h (all h') true marked (length_push h.ram c ∙ omega arith)
 
   begins : Begins (thing h) (thing h') (home h) (home h') (all h)
   unfolding home
@@ -95,12 +83,11 @@ module _ (h : Low) (sound : Sound h) (c : Slot) (ends_here : c.next ≡ 0) (kind
   }
 
 -- the head that the code writes
-pub begun_head : (h h' : Low) (r : ℕ) (kind : Kind) (prototype : ℕ) (c : Slot) → Sound h → c ≡ head_slot kind prototype → h' ≡ with_ram h (h.ram ++ c ∷ []) → r ≡ length h.ram + 1 → Sound h' × Made h r (new_cells kind prototype 0) h' × Stands h' r 0 r × (length (places h' r) ≡ 1)
+pub begun_head : (h h' : Low) (r : ℕ) (kind : Kind) (prototype : ℕ) (c : Slot) → Sound h → Marked h → c ≡ head_slot kind prototype → h' ≡ with_more h (h.ram ++ c ∷ []) true → r ≡ length h.ram + 1 → Sound h' × Made h r (new_cells kind prototype 0) h' × Stands h' r 0 r × (length (places h' r) ≡ 1)
 unfolding cell
-begun_head h h' r kind prototype c sound e w at =
+begun_head h h' r kind prototype c sound marked e w at =
     let at' : r ≡ suc (length h.ram) = omega arith in
-    let k : is_head_kind (head_slot kind prototype).kind ≡ true = head_kind kind in
-    rw (w, at', e) (sound_begun h sound (head_slot kind prototype) refl k, begun h sound (head_slot kind prototype) refl k, stands_new h sound (head_slot kind prototype) refl k, alone h sound (head_slot kind prototype) refl k)
+    rw (w, at', e) (sound_begun h sound (head_slot kind prototype) refl marked, begun h sound (head_slot kind prototype) refl marked, stands_new h sound (head_slot kind prototype) refl marked, alone h sound (head_slot kind prototype) refl marked)
 
 -- ---- its internals
 

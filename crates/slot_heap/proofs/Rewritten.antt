@@ -1,16 +1,17 @@
 -- The heap after a slot is put in the place of another, or left out.
-use Rattle.std.proofs.Common.{◌≡◌, ℕ, suc, zero, ◌-◌, ◌<◌, ◌≤◌, ◌≢◌, inl, inr, List, [], ◌∷◌, ◌++◌, length, get_or, set, map, refl, ap, sym, ◌∙◌, arith, Some, length-set}
+use Rattle.std.proofs.Common.{◌≡◌, ℕ, suc, zero, ◌-◌, ◌<◌, ◌≤◌, ◌≢◌, inl, inr, Bool, false, List, [], ◌∷◌, ◌++◌, length, get_or, set, map, refl, ap, sym, ◌∙◌, arith, Some, length-set}
 use Rattle.std.specs.List.{slice_get}
-use Rattle.std.specs.Prelude.{IsTrue}
+use Rattle.std.specs.Prelude.{IsTrue, ◌==◌}
 use Rattle.std.proofs.lemmas.Bool.{cases_eq}
 use Rattle.std.proofs.lemmas.List.{get_or-set_same, get_or-set_other, get_or_default, get_or_append_left, length_push}
 use Rattle.slot_heap.specs.declared.slot.Slot.{Slot}
-use Rattle.slot_heap.specs.Slot.{blank, is_head_kind, stored}
-use Rattle.slot_heap.specs.Chains.{step_of, chain, cell, head_at, address, update}
+use Rattle.slot_heap.specs.Slot.{blank, stored}
+use Rattle.slot_heap.specs.Chains.{step_of, chain, cell, address, update}
 use Rattle.slot_heap.specs.Shown.{Low, all, thing, home, is_thing, places, cells, shown, Stands}
 use Rattle.slot_heap.specs.Steps.{Replaced, Removed}
 use Rattle.slot_heap.specs.Writes.{with_ram, put_behind, put_over, put_past}
 use Rattle.slot_heap.proofs.Walks.{has_get}
+use Rattle.slot_heap.proofs.Marks.{thing_over, begins_here}
 use Rattle.slot_heap.proofs.Chains.{map_remove, place_of, slice_get_within, get_or_some}
 use Rattle.slot_heap.proofs.Linked.{chain_below, chained_same, shown_same}
 use Rattle.slot_heap.proofs.Edited.{Cuts, Puts, chain_cut, chain_cut_other, chained_cut, cells_cut, cells_cut_other, shown_cut, chain_put, chained_put, cells_put, cells_put_other, shown_put}
@@ -18,13 +19,13 @@ use Rattle.slot_heap.proofs.Written.{Sound, stands_at}
 
 -- ---- put
 
-abbrev pub kept_slot : Slot → Slot → Slot
-kept_slot old c = record (stored old c) { next = old.next }
+abbrev pub kept_slot : Bool → Slot → Slot → Slot
+kept_slot b old c = record (stored b old c) { next = old.next }
 
-puts_is : (s : List Slot) (a : ℕ) (c : Slot) → a < length s → Puts s (put_over s a c) a (stored (get_or s a blank) c)
+puts_is : (s : List Slot) (a : ℕ) (b : Bool) (c : Slot) → a < length s → Puts s (put_over s a b c) a (stored b (get_or s a blank) c)
 unfolding step_of cell put_over
-puts_is s a c l =
-    let x = kept_slot (get_or s a blank) c in
+puts_is s a b c l =
+    let x = kept_slot b (get_or s a blank) c in
     let here : get_or (set s a x) a blank ≡ x = get_or-set_same s a x blank l in
     let there : (j : ℕ) → j ≢ a → get_or (set s a x) j blank ≡ get_or s j blank = λ j d. get_or-set_other s a j x blank d in
     record {
@@ -37,35 +38,21 @@ puts_is s a c l =
       new_cell = ap cell here;
     }
 
-puts_head : (s : List Slot) (a : ℕ) (c : Slot) → a < length s → is_head_kind c.kind ≡ head_at s a → (j : ℕ) → head_at (put_over s a c) j ≡ head_at s j
-unfolding head_at put_over
-puts_head s a c l h j =
-    let x = kept_slot (get_or s a blank) c in
-    elim (cases_eq j a) [
-      | inl e ↦ rw e (ap (λ (y : Slot). is_head_kind y.kind) (get_or-set_same s a x blank l) ∙ h)
-      | inr d ↦ ap (λ (y : Slot). is_head_kind y.kind) (get_or-set_other s a j x blank d)
-    ]
-
-stored_cell : (old c : Slot) → stored (cell old) c ≡ stored old c
-unfolding cell
-stored_cell old c = refl
-
-module _ (h : Low) (sound : Sound h) (i k a : ℕ) (c : Slot) (t : IsTrue (thing h i)) (at_k : slice_get (chain (all h) (home h i)) k ≡ Some a) (head : is_head_kind c.kind ≡ head_at (all h) a) (old_is : get_or (cells h (suc i)) k blank ≡ cell (get_or (all h) a blank)) where
+module _ (h : Low) (sound : Sound h) (i k a : ℕ) (c : Slot) (t : IsTrue (thing h i)) (at_k : slice_get (chain (all h) (home h i)) k ≡ Some a) (old_is : get_or (cells h (suc i)) k blank ≡ cell (get_or (all h) a blank)) where
   abbrev h' : Low
-  h' = with_ram h (put_over h.ram a c)
+  h' = with_ram h (put_over h.ram a (k == 0) c)
 
   below : a < length (all h)
   below = chain_below (thing h) (home h) (all h) sound i a t (has_get _ k a at_k)
 
   abbrev x : Slot
-  x = stored (get_or (all h) a blank) c
+  x = stored (k == 0) (get_or (all h) a blank) c
 
   puts : Puts (all h) (all h') a x
-  puts = puts_is h.ram a c below
+  puts = puts_is h.ram a (k == 0) c below
 
   things : (j : ℕ) → thing h' j ≡ thing h j
-  unfolding thing
-  things j = puts_head h.ram a c below head j
+  things j = thing_over h (all h') puts.same_length j
 
   homes : (j : ℕ) → home h' j ≡ home h j
   unfolding home
@@ -75,9 +62,9 @@ module _ (h : Low) (sound : Sound h) (i k a : ℕ) (c : Slot) (t : IsTrue (thing
   sound_replaced =
       chained_same (thing h) (thing h') (home h) (home h') (all h') things (λ j u. homes j) (chained_put (thing h) (home h) (all h) (all h') sound i k a x t at_k puts)
 
-  same_x : cell x ≡ cell (stored (get_or (cells h (suc i)) k blank) c)
+  same_x : cell x ≡ cell (stored (k == 0) (get_or (cells h (suc i)) k blank) c)
   unfolding cell
-  same_x = ap (λ o. cell (stored o c)) (sym old_is)
+  same_x = ap (λ o. cell (stored (k == 0) o c)) (sym old_is)
 
   kept : (q : ℕ) → is_thing h' q ≡ is_thing h q
   kept zero = refl
@@ -100,20 +87,17 @@ module _ (h : Low) (sound : Sound h) (i k a : ℕ) (c : Slot) (t : IsTrue (thing
     others = record { heads = kept; apart = others; owned = λ q o. kept q ∙ o };
   }
 
-head_is : (s : List Slot) (m a : ℕ) → m ≡ a → is_head_kind (get_or s m blank).kind ≡ head_at s a
-unfolding head_at
-head_is s m a e = ap (λ j. is_head_kind (get_or s j blank).kind) e
-
-pub replaced : (h : Low) (r k at : ℕ) (c : Slot) → Sound h → Stands h r k at → is_head_kind c.kind ≡ is_head_kind (get_or (all h) (at - 1) blank).kind → Sound (with_ram h (put_over h.ram (at - 1) c)) × Replaced h r k c (with_ram h (put_over h.ram (at - 1) c))
-replaced h zero k at c sound s head = absurd (let t = s.thing in cc)
-replaced h (suc i) k at c sound s head =
+pub replaced : (h : Low) (r k at : ℕ) (b : Bool) (c : Slot) → Sound h → Stands h r k at → b ≡ get_or h.begins (at - 1) false → Sound (with_ram h (put_over h.ram (at - 1) b c)) × Replaced h r k c (with_ram h (put_over h.ram (at - 1) b c))
+replaced h zero k at b c sound s mark = absurd (let t = s.thing in cc)
+replaced h (suc i) k at b c sound s mark =
     let p = place_of (chain (all h) (home h i)) k at s.place in
     let f : at ≡ suc p.0 = p.1 in
     let e : at - 1 ≡ p.0 = omega arith in
     let w = stands_at h (suc i) k at sound s in
     let old_is = get_or_some (cells h (suc i)) k blank _ w.cell_is ∙ ap (λ m. cell (get_or (all h) m blank)) e in
-    let head' = head ∙ head_is (all h) (at - 1) p.0 e in
-    (rw e (sound_replaced h sound i k p.0 c s.thing p.2 head' old_is), rw e (replaced_at h sound i k p.0 c s.thing p.2 head' old_is))
+    let below = chain_below (thing h) (home h) (all h) sound i p.0 s.thing (has_get _ k p.0 p.2) in
+    let b_is : b ≡ (k == 0) = mark ∙ ap (λ m. get_or h.begins m false) e ∙ begins_here h i k p.0 sound s.thing below p.2 in
+    (rw (e, b_is) (sound_replaced h sound i k p.0 c s.thing p.2 old_is), rw (e, b_is) (replaced_at h sound i k p.0 c s.thing p.2 old_is))
 
 -- ---- cut
 
@@ -132,15 +116,6 @@ cuts_is s a b l e =
       same_cell = λ j. elim (cases_eq j a) [ inl q ↦ rw q (ap cell here) | inr d ↦ ap cell (there j d) ];
     }
 
-cuts_head : (s : List Slot) (a : ℕ) → a < length s → (j : ℕ) → head_at (put_past s a) j ≡ head_at s j
-unfolding head_at put_past
-cuts_head s a l j =
-    let x = record (get_or s a blank) { next = (get_or s ((get_or s a blank).next - 1) blank).next } in
-    elim (cases_eq j a) [
-      | inl e ↦ rw e (ap (λ (y : Slot). is_head_kind y.kind) (get_or-set_same s a x blank l))
-      | inr d ↦ ap (λ (y : Slot). is_head_kind y.kind) (get_or-set_other s a j x blank d)
-    ]
-
 module _ (h : Low) (sound : Sound h) (i k a b : ℕ) (t : IsTrue (thing h i)) (at_k : slice_get (chain (all h) (home h i)) k ≡ Some a) (after : step_of (all h) a ≡ suc b) where
   abbrev c' : Low
   c' = with_ram h (put_past h.ram a)
@@ -152,8 +127,7 @@ module _ (h : Low) (sound : Sound h) (i k a b : ℕ) (t : IsTrue (thing h i)) (a
   cuts = cuts_is h.ram a b cut_below after
 
   cut_things : (j : ℕ) → thing c' j ≡ thing h j
-  unfolding thing
-  cut_things j = cuts_head h.ram a cut_below j
+  cut_things j = thing_over h (all c') cuts.same_length j
 
   cut_homes : (j : ℕ) → home c' j ≡ home h j
   unfolding home
@@ -223,9 +197,9 @@ put_behind_is s ys k n c x y l ex eys ey =
     let fy : y ≡ get_or s k blank = ey ∙ get_or_default ys k y blank ly ∙ ap (λ t. get_or t k blank) eys ∙ get_or_append_left s _ blank k l in
     rw (eys, fy, fx) refl
 
-pub put_over_is : (s : List Slot) (a : ℕ) (c x z : Slot) → a < length s → x ≡ get_or s a x → z ≡ kept_slot x c → set s a z ≡ put_over s a c
+pub put_over_is : (s : List Slot) (a : ℕ) (b : Bool) (c x z : Slot) → a < length s → x ≡ get_or s a x → z ≡ kept_slot b x c → set s a z ≡ put_over s a b c
 unfolding put_over
-put_over_is s a c x z l e g = let f = e ∙ get_or_default s a x blank l in rw (g, f) refl
+put_over_is s a b c x z l e g = let f = e ∙ get_or_default s a x blank l in rw (g, f) refl
 
 pub put_past_is : (s : List Slot) (a : ℕ) (x y z : Slot) → a < length s → x ≡ get_or s a x → x.next - 1 < length s → y ≡ get_or s (x.next - 1) y → z ≡ get_or s a z → set s a (record z { next = y.next }) ≡ put_past s a
 unfolding put_past

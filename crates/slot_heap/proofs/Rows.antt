@@ -7,7 +7,7 @@ use Rattle.slot_heap.specs.declared.slot.Kind.TheVariants.{Object, Cell}
 use Rattle.slot_heap.specs.declared.slot.Value.TheVariants.{Number}
 use Rattle.slot_heap.specs.Slot.{head_slot, stored, value_in, with_value}
 use Rattle.slot_heap.specs.Walk.{walk}
-use Rattle.slot_heap.specs.Chains.{cell, cells_at, chain, head_at, shown_in, step_of, thing_in}
+use Rattle.slot_heap.specs.Chains.{cell, cells_at, chain, shown_in, step_of, thing_in}
 use Rattle.slot_heap.specs.Shown.{Low, low, home, places, shown, thing}
 use Rattle.slot_heap.specs.Held.{full_of, realm_address}
 use Rattle.slot_heap.specs.Reading.{Reading, class_in, property_in, thing_of, value_of}
@@ -23,10 +23,10 @@ abbrev first_head : Slot
 first_head = record (head_slot Object 0) { next = 3 }
 
 abbrev small : Low
-small = low (first_head ∷ head_slot Cell 0 ∷ property ∷ []) 8
+small = low (first_head ∷ head_slot Cell 0 ∷ property ∷ []) (true ∷ true ∷ false ∷ []) 8
 
 two_things : shown small ≡ (1, head_slot Object 0 ∷ property ∷ []) ∷ (2, head_slot Cell 0 ∷ []) ∷ []
-unfolding shown shown_in thing thing_in home head_at cells_at cell chain step_of walk
+unfolding shown shown_in thing thing_in home cells_at cell chain step_of walk
 two_things = refl
 
 where_they_stand : places small 1 ≡ 1 ∷ 3 ∷ []
@@ -59,7 +59,7 @@ to_the_brim : full_of (room 1 1 0) (room 3 1 2) (room 2 0 2) ≡ None
 to_the_brim = refl
 
 -- of an object's head the size and the alias number stay
-head_kept : stored (record { next = 0; key = 0; kind = 1; flags = 1; value = 8589934597; last = 7 }) (record { next = 0; key = 0; kind = 1; flags = 0; value = 12884901888; last = 0 }) ≡ record { next = 0; key = 0; kind = 1; flags = 0; value = 12884901893; last = 7 }
+head_kept : stored true (record { next = 0; key = 0; kind = 1; flags = 1; value = 8589934597; last = 7 }) (record { next = 0; key = 0; kind = 1; flags = 0; value = 12884901888; last = 0 }) ≡ record { next = 0; key = 0; kind = 1; flags = 0; value = 12884901893; last = 7 }
 head_kept = refl
 
 realm_places : (realm_address 0 ≡ 1) × (realm_address 2 ≡ 4) × (realm_address 13 ≡ 16) × (realm_address 103 ≡ 195)

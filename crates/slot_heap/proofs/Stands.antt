@@ -1,7 +1,7 @@
 -- All that is spoken of goes on standing.
-use Rattle.std.proofs.Common.{◌≡◌, ◌≢◌, ℕ, suc, zero, ◌+◌, ◌*◌, ◌/◌, ◌%◌, ◌<◌, inl, inr, Bool, true, false, cond, List, [], ◌∷◌, ◌++◌, length, get_or, refl, ap, sym, ◌∙◌, subst, arith, length-append}
+use Rattle.std.proofs.Common.{◌≡◌, ◌≢◌, ℕ, suc, zero, ◌+◌, ◌*◌, ◌/◌, ◌%◌, ◌<◌, inl, inr, Bool, true, false, cond, List, [], ◌∷◌, ◌++◌, length, get_or, refl, sym, ◌∙◌, subst, arith, length-append}
 use Rattle.std.specs.List.{All}
-use Rattle.std.specs.Prelude.{IsTrue, ◌==◌, ◌&&◌}
+use Rattle.std.specs.Prelude.{IsTrue, ◌==◌}
 use Rattle.std.proofs.lemmas.Bool.{cases_eq, eqb-true}
 use Rattle.std.proofs.lemmas.List.{append-nil}
 use Rattle.std.proofs.lemmas.List.Elements.{All-tail, All-cons, All-append, All-take, All-drop, All-set, All-weaker, All-push}
@@ -9,7 +9,7 @@ use Rattle.slot_heap.specs.declared.slot.Slot.{Slot}
 use Rattle.slot_heap.specs.declared.slot.Job.{Job}
 use Rattle.slot_heap.specs.declared.slot.Value.{Value}
 use Rattle.slot_heap.specs.declared.slot.Value.TheVariants.{Undefined, Null, Bool as OfBool, Number, Name, Text, Thing}
-use Rattle.slot_heap.specs.Slot.{blank, four_bytes, tag_of, value_by, value_in, is_object_kind, is_head_kind, stored}
+use Rattle.slot_heap.specs.Slot.{blank, four_bytes, tag_of, value_by, value_in, is_object_kind, stored}
 use Rattle.slot_heap.specs.Chains.{cell}
 use Rattle.slot_heap.specs.Shown.{is_thing, cells}
 use Rattle.slot_heap.specs.Steps.{Added, Replaced, Removed, Made, OthersStay}
@@ -107,44 +107,39 @@ standing_removed h h' r k w js t s a =
     let all = s.cells r t in
     edit_stands h h' r _ w a.others js a.celled s (All-append (CellStands h) _ _ (All-take (CellStands h) (suc k) _ all) (All-drop (CellStands h) (suc (suc k)) _ all))
 
+-- what is put over a head is a head, and over an object's head an object's
+pub record KeepsKind (old c : Slot) : Type 0 where
+  pub no_last : has_last c ≡ false
+  pub object : is_object_kind c.kind ≡ is_object_kind old.kind
+
 -- of the slot that is put, what it speaks of stands; what stays of an old head is a size and an alias number
-stored_stands : (h : Held) (old c : Slot) → is_head_kind c.kind ≡ is_head_kind old.kind → CellStands h c → CellStands h (stored old c)
+stored_stands : (h : Held) (is_head : Bool) (old c : Slot) → (IsTrue is_head → KeepsKind old c) → CellStands h c → CellStands h (stored is_head old c)
 unfolding value_in
-stored_stands h old c e s = record {
-  prototype = λ q. subst (RefStands h) (sym (same_upper (is_object_kind old.kind && is_object_kind c.kind) c.value old.value)) (s.prototype q);
+stored_stands h false old c k s = s
+stored_stands h true old c k s = record {
+  prototype = λ q. subst (RefStands h) (sym (same_upper (is_object_kind old.kind) c.value old.value)) (s.prototype q);
   tag = s.tag;
   key = s.key;
-  getter = λ q. subst (RefStands h) (sym (ap (λ v. v % four_bytes) (no_size (is_object_kind old.kind) (is_object_kind c.kind) c.value _ (accessor_no_object c q)))) (s.getter q);
-  last = λ q. subst (RefStands h) (sym (ap (λ b. cond b old.last c.last) (sym e ∙ last_no_head c q))) (s.last q);
-  value = value_of_it (is_object_kind old.kind) (is_object_kind c.kind) refl;
+  getter = λ q. absurd (let e = accessor_last (is_accessor c) (c.kind == 33) q in let f = (k refl).no_last in let g : true ≡ false = sym e ∙ f in cc);
+  last = λ q. absurd (let f = (k refl).no_last in let g : true ≡ false = sym q ∙ f in cc);
+  value = value_of_it (is_object_kind old.kind) (k refl).object;
 }
   where
     same_upper : (b : Bool) (v o : ℕ) → cond b (v / four_bytes * four_bytes + o % four_bytes) v / four_bytes ≡ v / four_bytes
     same_upper true v o = omega arith
     same_upper false v o = refl
 
-    no_size : (a b : Bool) (v x : ℕ) → b ≡ false → cond (a && b) x v ≡ v
-    no_size true b v x e = rw e refl
-    no_size false b v x e = refl
+    accessor_last : (a b : Bool) → a ≡ true → cond a true b ≡ true
+    accessor_last true b e = refl
+    accessor_last false b e = absurd (cc)
 
-    accessor_no_object : (c : Slot) → IsTrue (is_accessor c) → is_object_kind c.kind ≡ false
-    accessor_no_object c q = ap is_object_kind (eqb-true c.kind 17 q)
+    value_of_it : (b : Bool) → is_object_kind c.kind ≡ b → ValueStands h (value_by (tag_of c) (cond b (c.value / four_bytes * four_bytes + old.value % four_bytes) c.value))
+    value_of_it true f = subst (λ t. ValueStands h (value_by t (c.value / four_bytes * four_bytes + old.value % four_bytes))) (sym (s.tag f)) tt
+    value_of_it false f = s.value
 
-    last_no_head : (c : Slot) → IsTrue (has_last c) → is_head_kind c.kind ≡ false
-    last_no_head c q = by (is_accessor c) refl q
-      where
-        by : (b : Bool) → is_accessor c ≡ b → cond b true (c.kind == 33) ≡ true → is_head_kind c.kind ≡ false
-        by true f q = ap is_head_kind (eqb-true c.kind 17 f)
-        by false f q = ap is_head_kind (eqb-true c.kind 33 q)
-
-    value_of_it : (a b : Bool) → is_object_kind c.kind ≡ b → ValueStands h (value_by (tag_of c) (cond (a && b) (c.value / four_bytes * four_bytes + old.value % four_bytes) c.value))
-    value_of_it true true f = subst (λ t. ValueStands h (value_by t (c.value / four_bytes * four_bytes + old.value % four_bytes))) (sym (s.tag f)) tt
-    value_of_it true false f = s.value
-    value_of_it false b f = s.value
-
-pub standing_replaced : (h h' : Held) (r k : ℕ) (c : Slot) → SameWords h h' → h'.jobs.waiting ≡ h.jobs.waiting → IsTrue (is_thing h.slots r) → is_head_kind c.kind ≡ is_head_kind (get_or (cells h.slots r) k blank).kind → Standing h → CellStands h c → Replaced h.slots r k c h'.slots → Standing h'
+pub standing_replaced : (h h' : Held) (r k : ℕ) (c : Slot) → SameWords h h' → h'.jobs.waiting ≡ h.jobs.waiting → IsTrue (is_thing h.slots r) → (k ≡ 0 → KeepsKind (get_or (cells h.slots r) k blank) c) → Standing h → CellStands h c → Replaced h.slots r k c h'.slots → Standing h'
 standing_replaced h h' r k c w js t e s d a =
-    edit_stands h h' r _ w a.others js a.celled s (All-set (CellStands h) _ k _ (cell_stands h _ (stored_stands h (get_or (cells h.slots r) k blank) c e d)) (s.cells r t))
+    edit_stands h h' r _ w a.others js a.celled s (All-set (CellStands h) _ k _ (cell_stands h _ (stored_stands h (k == 0) (get_or (cells h.slots r) k blank) c (λ q. e (eqb-true k 0 q)) d)) (s.cells r t))
 
 -- ---- a thing is made
 

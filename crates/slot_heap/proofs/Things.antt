@@ -71,7 +71,7 @@ unfolding flat
 flat_made h h' r cs s w m =
     ap (map (λ (p : ℕ × List Slot). thing_of (reading h') p.1)) m.things ∙ map-append _ (shown h.slots) ((r, cs) ∷ []) ∙ ap (λ t. t ++ thing_of (reading h') cs ∷ []) (reread h (reading h') (grows_made h h' r cs w m) s.named (shown h.slots) (shown_stands h s))
 
-flat_length : (h : Held) → length (flat h) ≡ length (reading h).heads
+pub flat_length : (h : Held) → length (flat h) ≡ length (reading h).heads
 unfolding flat reading
 flat_length h = length-map _ _ ∙ sym (length-map _ _)
 

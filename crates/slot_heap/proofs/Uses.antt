@@ -1,5 +1,5 @@
 -- What callers of the heap use of its steps.
-use Rattle.std.proofs.Common.{◌≡◌, ◌≢◌, ℕ, suc, zero, ◌<◌, ◌≤◌, List, [], ◌∷◌, length, refl, sym, ◌∙◌, arith, Some}
+use Rattle.std.proofs.Common.{◌≡◌, ◌≢◌, ℕ, suc, zero, ◌<◌, ◌≤◌, List, [], ◌∷◌, length, refl, ap, sym, ◌∙◌, arith, Some}
 use Rattle.std.specs.List.{slice_get, insert}
 use Rattle.std.proofs.lemmas.List.{length-map}
 use Rattle.slot_heap.specs.declared.slot.Slot.{Slot}
@@ -7,6 +7,7 @@ use Rattle.slot_heap.specs.declared.slot.Room.{Room}
 use Rattle.slot_heap.specs.Held.{Held, Holds, spare}
 use Rattle.slot_heap.specs.Chains.{cells_at}
 use Rattle.slot_heap.specs.Shown.{Low, next_address, places, cells, Stands}
+use Rattle.slot_heap.proofs.Flat.{SameWords}
 use Rattle.slot_heap.specs.Steps.{OthersStay, Added, Replaced, Made}
 
 -- as many cells as places
@@ -61,6 +62,21 @@ stands_elsewhere h r q k at h' o d t = record { thing = o.heads q ∙ t.thing; p
 -- a thing that stood goes on standing where it stood when one is made
 pub stands_made : (h : Low) (r q k at : ℕ) (cs : List Slot) (h' : Low) → Made h r cs h' → q ≢ r → Stands h q k at → Stands h' q k at
 stands_made h r q k at cs h' m d t = record { thing = m.heads q d ∙ t.thing; place = rw (m.apart q t.thing).0 t.place }
+
+-- a thing has a head
+some_head : (cs : List Slot) → 0 < length cs → (c : Slot) × (rest : List Slot) × (cs ≡ c ∷ rest)
+some_head [] l = absurd (omega arith)
+some_head (c ∷ cs) l = (c, cs, refl)
+
+pub head_cells : (h : Low) (r at : ℕ) → Stands h r 0 at → (c : Slot) × (rest : List Slot) × (cells h r ≡ c ∷ rest)
+head_cells h r at s = some_head (cells h r) (let n = same_count h r in let l = within (places h r) 0 at s.place in omega arith)
+
+-- edits of slots leave units and names
+pub words_stay : (h h' : Held) → h' ≡ record h { slots = h'.slots } → SameWords h h'
+words_stay h h' e = (ap (λ (g : Held). g.words.units) e, ap (λ (g : Held). g.words.names) e)
+
+pub words_stay_used : (h h' : Held) (used : Room) → h' ≡ record h { slots = h'.slots; used = used } → SameWords h h'
+words_stay_used h h' used e = (ap (λ (g : Held). g.words.units) e, ap (λ (g : Held). g.words.names) e)
 
 -- ---- what calls ask
 

@@ -1,19 +1,20 @@
 -- The three writes, and the heap after each.
-use Rattle.std.proofs.Common.{◌≡◌, ℕ, suc, zero, ◌+◌, ◌-◌, ◌<◌, ◌≤◌, ◌≢◌, inl, inr, false, List, [], ◌∷◌, length, get_or, map, refl, ap, sym, ◌∙◌, arith, Some, length-set}
+use Rattle.std.proofs.Common.{◌≡◌, ℕ, suc, zero, ◌+◌, ◌-◌, ◌<◌, ◌≤◌, ◌≢◌, inl, inr, Bool, false, List, [], ◌∷◌, ◌++◌, length, get_or, map, refl, ap, ap₂, sym, ◌∙◌, arith, Some, length-set}
 use Rattle.std.specs.List.{slice_get, insert}
 use Rattle.std.specs.Prelude.{IsTrue, option_map}
 use Rattle.std.proofs.lemmas.Bool.{cases_eq, cases_lt}
 use Rattle.std.proofs.lemmas.List.{get_or_past, get_or_push, get_or_append_left, get_or-set_same, get_or-set_other, get_or_default, length_push}
 use Rattle.std.proofs.lemmas.Option.{slice_get-map}
 use Rattle.slot_heap.specs.declared.slot.Slot.{Slot}
-use Rattle.slot_heap.specs.Slot.{blank, is_head_kind}
-use Rattle.slot_heap.specs.Chains.{step_of, chain, cell, head_at, address, Chained, cells_at}
+use Rattle.slot_heap.specs.Slot.{blank}
+use Rattle.slot_heap.specs.Chains.{step_of, chain, cell, address, Chained, cells_at}
 use Rattle.slot_heap.specs.Shown.{Low, low, all, thing, home, is_thing, places, cells, shown, Stands, left, Kept}
 use Rattle.slot_heap.specs.Steps.{Added}
 use Rattle.slot_heap.specs.Walk.{IsWalk}
-use Rattle.slot_heap.specs.Writes.{with_ram, put_behind}
+use Rattle.slot_heap.specs.Writes.{with_ram, with_more, put_behind}
 use Rattle.slot_heap.proofs.Walks.{has_get, walk_next, walk_rest}
 use Rattle.slot_heap.proofs.Chains.{map_insert, length_chain, chain_is, place_of}
+use Rattle.slot_heap.proofs.Marks.{Marked, no_thing_past, thing_at_more, thing_more}
 use Rattle.slot_heap.proofs.Linked.{Links, chain_below, chained_same, shown_same, chain_linked, chain_other, chained_linked, cells_linked, cells_other, shown_linked}
 
 abbrev pub Sound : Low → Type 0
@@ -109,19 +110,9 @@ module _ (s : List Slot) (a : ℕ) (c : Slot) (below : a < length s) where
     new_cell = ap cell there;
   }
 
-  pub same_head : is_head_kind c.kind ≡ false → (j : ℕ) → head_at s' j ≡ head_at s j
-  unfolding head_at
-  same_head part j = elim (cases_eq j a) [
-    | inl e ↦ rw e (ap (λ (x : Slot). is_head_kind x.kind) here)
-    | inr d ↦ elim (cases_eq j (length s)) [
-      | inl e ↦ rw e (ap (λ (x : Slot). is_head_kind x.kind) there ∙ part ∙ sym (ap (λ (x : Slot). is_head_kind x.kind) (get_or_past s (length s) blank (omega arith))))
-      | inr d' ↦ ap (λ (x : Slot). is_head_kind x.kind) (past j d' d)
-    ]
-  ]
-
-module _ (h : Low) (sound : Sound h) (i k a : ℕ) (c : Slot) (t : IsTrue (thing h i)) (at_k : slice_get (chain (all h) (home h i)) k ≡ Some a) (part : is_head_kind c.kind ≡ false) where
+module _ (h : Low) (sound : Sound h) (i k a : ℕ) (c : Slot) (t : IsTrue (thing h i)) (at_k : slice_get (chain (all h) (home h i)) k ≡ Some a) (marked : Marked h) where
   abbrev h' : Low
-  h' = with_ram h (put_behind h.ram a c (length h.ram + 1))
+  h' = with_more h (put_behind h.ram a c (length h.ram + 1)) false
 
   below : a < length (all h)
   below = chain_below (thing h) (home h) (all h) sound i a t (has_get _ k a at_k)
@@ -129,9 +120,14 @@ module _ (h : Low) (sound : Sound h) (i k a : ℕ) (c : Slot) (t : IsTrue (thing
   linked : Links (all h) (all h') a c
   linked = links h.ram a c below
 
+  none : thing h (length (all h)) ≡ false
+  none = no_thing_past h (length (all h)) (omega arith)
+
   things : (j : ℕ) → thing h' j ≡ thing h j
-  unfolding thing
-  things j = same_head h.ram a c below part j
+  things j = elim (cases_eq j (length h.ram)) [
+    | inl e ↦ rw e (thing_at_more h (all h') false marked linked.grown ∙ sym none)
+    | inr d ↦ thing_more h (all h') false marked linked.grown j d
+  ]
 
   homes : (j : ℕ) → home h' j ≡ home h j
   unfolding home
@@ -140,10 +136,6 @@ module _ (h : Low) (sound : Sound h) (i k a : ℕ) (c : Slot) (t : IsTrue (thing
   pub sound_added : Sound h'
   sound_added =
       chained_same (thing h) (thing h') (home h) (home h') (all h') things (λ j u. homes j) (chained_linked (thing h) (home h) (all h) (all h') sound i k a c t at_k linked)
-
-  none : thing h (length (all h)) ≡ false
-  unfolding thing head_at
-  none = ap (λ (x : Slot). is_head_kind x.kind) (get_or_past h.ram (length h.ram) blank (omega arith))
 
   others : (q : ℕ) → IsTrue (is_thing h q) → q ≢ suc i → (places h' q ≡ places h q) × (cells h' q ≡ cells h q)
   unfolding home
@@ -168,24 +160,28 @@ module _ (h : Low) (sound : Sound h) (i k a : ℕ) (c : Slot) (t : IsTrue (thing
     others = record { heads = kept; apart = others; owned = λ q o. kept q ∙ o };
   }
 
-pub added : (h : Low) (r k at : ℕ) (c : Slot) → Sound h → Stands h r k at → is_head_kind c.kind ≡ false → Sound (with_ram h (put_behind h.ram (at - 1) c (length h.ram + 1))) × Added h r k c (with_ram h (put_behind h.ram (at - 1) c (length h.ram + 1)))
-added h zero k at c sound s part = absurd (let t = s.thing in cc)
-added h (suc i) k at c sound s part =
+pub added : (h : Low) (r k at : ℕ) (c : Slot) → Sound h → Stands h r k at → Marked h → Sound (with_more h (put_behind h.ram (at - 1) c (length h.ram + 1)) false) × Added h r k c (with_more h (put_behind h.ram (at - 1) c (length h.ram + 1)) false)
+added h zero k at c sound s marked = absurd (let t = s.thing in cc)
+added h (suc i) k at c sound s marked =
     let p = place_of (chain (all h) (home h i)) k at s.place in
     let f : at ≡ suc p.0 = p.1 in
     let e : at - 1 ≡ p.0 = omega arith in
-    (rw e (sound_added h sound i k p.0 c s.thing p.2 part), rw e (added_at h sound i k p.0 c s.thing p.2 part))
+    (rw e (sound_added h sound i k p.0 c s.thing p.2 marked), rw e (added_at h sound i k p.0 c s.thing p.2 marked))
 
 -- ---- what the code writes
 
-pub written : (f : List Slot → List Slot) (h : Low) (s t : List Slot) (reserved : ℕ) → low s reserved ≡ h → t ≡ f s → low t reserved ≡ with_ram h (f h.ram)
-written f h s t reserved v e = ap (λ u. low u reserved) e ∙ ap (λ (g : Low). with_ram g (f g.ram)) v
+pub written : (f : List Slot → List Slot) (h : Low) (s t : List Slot) (b : List Bool) (reserved : ℕ) → low s b reserved ≡ h → t ≡ f s → low t b reserved ≡ with_ram h (f h.ram)
+written f h s t b reserved v e = ap (λ u. low u b reserved) e ∙ ap (λ (g : Low). with_ram g (f g.ram)) v
 
-pub kept_after : (h h' : Low) (count capacity count' capacity' : ℕ) → Kept h count capacity → Sound h' → h'.reserved ≡ h.reserved → count' ≤ h.reserved → capacity' ≡ capacity → Kept h' count' capacity'
-kept_after h h' count capacity count' capacity' k sound e l c =
+pub written_more : (f : List Slot → List Slot) (is_head : Bool) (h : Low) (s t : List Slot) (b d : List Bool) (reserved : ℕ) → low s b reserved ≡ h → t ≡ f s → d ≡ b ++ is_head ∷ [] → low t d reserved ≡ with_more h (f h.ram) is_head
+written_more f is_head h s t b d reserved v e g = ap₂ (λ u w. low u w reserved) e g ∙ ap (λ (g : Low). with_more g (f g.ram) is_head) v
+
+pub kept_after : (h h' : Low) (count capacity marks mark_capacity count' capacity' marks' mark_capacity' : ℕ) → Kept h count capacity marks mark_capacity → Sound h' → h'.reserved ≡ h.reserved → count' ≤ h.reserved → capacity' ≡ capacity → marks' ≡ count' → mark_capacity' ≡ mark_capacity → Kept h' count' capacity' marks' mark_capacity'
+kept_after h h' count capacity marks mark_capacity count' capacity' marks' mark_capacity' k sound e l c m d =
     let r = k.reserved in
+    let q = k.mark_room in
     let w = k.word in
-    record { chained = sound; within = omega arith; reserved = omega arith; word = omega arith }
+    record { chained = sound; within = omega arith; reserved = omega arith; marked = m; mark_room = omega arith; word = omega arith }
 
 range_at : (h : Low) (j : ℕ) → step_of (all h) j ≤ length (all h) → (get_or (all h) j blank).next ≤ length (all h)
 unfolding step_of
@@ -196,8 +192,8 @@ pub within_next : (h : Low) (at n : ℕ) → Sound h → n ≡ (get_or (all h) (
 within_next h at n sound e = let l = range_at h (at - 1) (sound.in_range (at - 1)) in omega arith
 
 -- what the code reads
-pub cell_read : (h : Low) (s : List Slot) (reserved r k at : ℕ) (x : Slot) → Sound h → low s reserved ≡ h → Stands h r k at → x ≡ get_or s (at - 1) x → slice_get (cells h r) k ≡ Some (cell x)
-cell_read h s reserved r k at x sound v t e =
+pub cell_read : (h : Low) (s : List Slot) (b : List Bool) (reserved r k at : ℕ) (x : Slot) → Sound h → low s b reserved ≡ h → Stands h r k at → x ≡ get_or s (at - 1) x → slice_get (cells h r) k ≡ Some (cell x)
+cell_read h s b reserved r k at x sound v t e =
     let w = stands_at h r k at sound t in
     let a = w.address_is in
     let l = w.within in

@@ -2,7 +2,7 @@
 use Rattle.std.specs.Prelude.{◌≡◌, ℕ, ◌≤◌, ◌<◌, ◌==◌, Bool, cond, IsTrue, List, [], ◌∷◌, ◌++◌, map, length, get_or, Option, Some, None}
 use Prim.Native.Nat.{zero, suc}
 use Rattle.slot_heap.specs.declared.slot.Slot.{Slot}
-use Rattle.slot_heap.specs.Slot.{blank, is_head_kind}
+use Rattle.slot_heap.specs.Slot.{blank}
 use Rattle.slot_heap.specs.Walk.{walk, IsWalk, Has}
 
 -- ---- one chain
@@ -22,10 +22,6 @@ cell slot = record slot { next = 0 }
 -- the cells from an address on
 unfoldable pub cells_at : List Slot → ℕ → List Slot
 cells_at s at = map (λ i. cell (get_or s i blank)) (chain s at)
-
--- a head stands at place i
-unfoldable pub head_at : List Slot → ℕ → Bool
-head_at s i = is_head_kind (get_or s i blank).kind
 
 -- an address, where it is one
 abbrev pub address : ℕ → Option ℕ

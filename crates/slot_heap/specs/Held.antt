@@ -72,7 +72,7 @@ pub record Holds (room asked : Room) : Type 0 where
 -- a heap that was started on a reserve: nothing of it is used
 abbrev pub started : Lent → Room → Held
 started rom room =
-    held rom (low [] room.slots) (words [] [] false 0 0 room.units room.names) (record { waiting = []; reserved = room.slots / 4 }) no_room room
+    held rom (low [] [] room.slots) (words [] [] false 0 0 room.units room.names) (record { waiting = []; reserved = room.slots / 4 }) no_room room
 
 -- What the counts keep: none is past its limit, what is left below each limit is there, and each waiting job was counted as
 -- four slots.

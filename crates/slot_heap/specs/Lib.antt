@@ -10,3 +10,4 @@ pub mod Held
 pub mod Reading
 pub mod Flat
 pub mod Standing
+pub mod Sound

@@ -1,16 +1,17 @@
 -- What the slots of a heap show: the things, by their addresses. A heap without a ROM has each thing where it was made.
-use Rattle.std.specs.Prelude.{◌≡◌, ℕ, ◌+◌, ◌≤◌, ◌<◌, ◌^◌, Bool, false, IsTrue, List, [], map, length, slice_get, Some}
+use Rattle.std.specs.Prelude.{◌≡◌, ℕ, ◌+◌, ◌≤◌, ◌<◌, ◌^◌, ◌&&◌, Bool, false, nat_lt, IsTrue, List, [], map, length, get_or, slice_get, Some}
 use Prim.Native.Nat.{zero, suc}
 use Rattle.slot_heap.specs.declared.slot.Slot.{Slot}
-use Rattle.slot_heap.specs.Chains.{chain, cells_at, head_at, shown_in, Chained}
+use Rattle.slot_heap.specs.Chains.{chain, cells_at, shown_in, Chained}
 
--- the slots, and how many there is room for
+-- the slots, of each whether a thing begins there, and how many there is room for
 pub record Low : Type 0 where
   pub ram : List Slot
+  pub begins : List Bool
   pub reserved : ℕ
 
-abbrev pub low : List Slot → ℕ → Low
-low ram reserved = record { ram = ram; reserved = reserved }
+abbrev pub low : List Slot → List Bool → ℕ → Low
+low ram begins reserved = record { ram = ram; begins = begins; reserved = reserved }
 
 -- the slots by their addresses
 abbrev pub all : Low → List Slot
@@ -22,7 +23,7 @@ next_address h = length (all h) + 1
 
 -- a thing has its first slot at place i
 unfoldable pub thing : Low → ℕ → Bool
-thing h i = head_at (all h) i
+thing h i = nat_lt i (length (all h)) && get_or h.begins i false
 
 -- the address at which its chain begins
 unfoldable pub home : Low → ℕ → ℕ
@@ -64,8 +65,10 @@ unfoldable pub left : Low → ℕ → ℕ
 left h at = length (chain (all h) at)
 
 -- what the slots keep
-pub record Kept (h : Low) (count capacity : ℕ) : Type 0 where
+pub record Kept (h : Low) (count capacity marks mark_capacity : ℕ) : Type 0 where
   pub chained : Chained (thing h) (home h) (all h)
   pub within : count ≤ h.reserved
   pub reserved : h.reserved ≤ capacity
+  pub marked : marks ≡ count
+  pub mark_room : h.reserved ≤ mark_capacity
   pub word : h.reserved < 2 ^ 32

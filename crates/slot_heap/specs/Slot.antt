@@ -23,12 +23,9 @@ byte_of Promise = 6
 byte_of Cell = 7
 byte_of Mark = 8
 
--- the kinds of an object's head, and of a thing's
+-- the kinds of an object's head
 abbrev pub is_object_kind : ℕ → Bool
 is_object_kind k = nat_le 1 k && nat_le k 6
-
-abbrev pub is_head_kind : ℕ → Bool
-is_head_kind k = nat_le 1 k && nat_le k 8
 
 -- ---- values
 
@@ -83,9 +80,10 @@ head_slot kind prototype = record {
   last = 0;
 }
 
--- What stands where a slot is put in the place of an old one. Of a head the alias number stays, and of an object the size.
-abbrev pub stored : (old c : Slot) → Slot
-stored old c = record c {
-  value = cond (is_object_kind old.kind && is_object_kind c.kind) (c.value / four_bytes * four_bytes + old.value % four_bytes) c.value;
-  last = cond (is_head_kind old.kind) old.last c.last;
+-- What stands where a slot is put in the place of an old one, which may be a thing's head. Of a head the alias number stays,
+-- and of an object's head the size.
+abbrev pub stored : (is_head : Bool) → (old c : Slot) → Slot
+stored is_head old c = record c {
+  value = cond (is_head && is_object_kind old.kind) (c.value / four_bytes * four_bytes + old.value % four_bytes) c.value;
+  last = cond is_head old.last c.last;
 }

@@ -1,5 +1,5 @@
 -- What each change of the slots does to what they show.
-use Rattle.std.specs.Prelude.{◌≡◌, ◌≢◌, ℕ, ◌+◌, IsTrue, List, [], ◌∷◌, ◌++◌, length, replicate, set, get_or}
+use Rattle.std.specs.Prelude.{◌≡◌, ◌≢◌, ◌==◌, ℕ, ◌+◌, IsTrue, List, [], ◌∷◌, ◌++◌, length, replicate, set, get_or}
 use Prim.Native.Nat.{suc}
 use Rattle.std.specs.List.{insert, remove}
 use Rattle.slot_heap.specs.declared.slot.Slot.{Slot}
@@ -22,12 +22,12 @@ pub record Added (h : Low) (r k : ℕ) (c : Slot) (h' : Low) : Type 0 where
   pub celled : cells h' r ≡ insert (cells h r) (suc k) (cell c)
   pub others : OthersStay h r h'
 
--- the k-th cell of the thing at r is c's
+-- the k-th cell of the thing at r is c's; the head is the 0th
 pub record Replaced (h : Low) (r k : ℕ) (c : Slot) (h' : Low) : Type 0 where
   pub same_length : length (all h') ≡ length (all h)
-  pub things : shown h' ≡ update r (set (cells h r) k (cell (stored (get_or (cells h r) k blank) c))) (shown h)
+  pub things : shown h' ≡ update r (set (cells h r) k (cell (stored (k == 0) (get_or (cells h r) k blank) c))) (shown h)
   pub placed : places h' r ≡ places h r
-  pub celled : cells h' r ≡ set (cells h r) k (cell (stored (get_or (cells h r) k blank) c))
+  pub celled : cells h' r ≡ set (cells h r) k (cell (stored (k == 0) (get_or (cells h r) k blank) c))
   pub others : OthersStay h r h'
 
 -- the slot after the k-th of the thing at r is gone from it

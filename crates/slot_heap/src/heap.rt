@@ -3,12 +3,14 @@
 ghost use Rattle.std.specs.Prelude.{◌≡◌, ◌⊎◌, ℕ, ◌+◌, ◌-◌, ◌*◌, ◌/◌, ◌<◌, ◌≤◌, ◌^◌, ◌↔◌, ◌++◌, ◌∷◌, [], length, take, drop, get_or, slice_get, slice_index_or, IsTrue, IsErr, IfOk, IfErr, IfSome, OnOk, OnErr, MatchResult, MatchOption, Some, None, true, false, option_map};
 ghost use Rattle.std.specs.List.{All};
 ghost use Prim.Native.Nat.{suc};
-ghost use Rattle.slot_heap.specs.Slot.{blank, is_head_kind};
-ghost use Rattle.slot_heap.specs.Chains.{cell, Chained};
+ghost use Rattle.slot_heap.specs.Slot.{blank};
+ghost use Rattle.slot_heap.specs.Chains.{address, cell, Chained};
 ghost use Rattle.slot_heap.specs.Shown.{all, cells, copy_cost, home, is_thing, left, next_address, Owned, places, Stands, thing};
 ghost use Rattle.slot_heap.specs.Steps.{Added, Made, new_cells, Removed, Replaced};
 ghost use Rattle.slot_heap.specs.Texts.{IsText, NoName, opened, span_of, text_in, Within, word_of};
 ghost use Rattle.slot_heap.specs.Held.{Counted, full_of, Held, Holds, NamedAs, names_more, no_room, realm_of, slots_more, spare, started, units_more};
+ghost use Rattle.slot_heap.specs.Standing.{ValueStands};
+ghost use Rattle.slot_heap.specs.Sound.{IsJob, Sound};
 
 use super::jobs::Jobs;
 use super::reserve::Reserve;
@@ -47,7 +49,8 @@ impl<'a> Heap<'a> {
         requires names { length rom.names + reserve.room.names < 2 ^ 16 }
         requires slots { length rom.slots + reserve.room.slots < 2 ^ 32 }
         requires units { length rom.units + reserve.room.units < 2 ^ 32 }
-        ensures { result ≡ started rom.entry reserve.room }
+        ensures started { result ≡ started rom.entry reserve.room }
+        ensures sound { Sound result }
     {
         let (slots, texts, jobs, room) = reserve.parts();
         Heap {
@@ -58,18 +61,6 @@ impl<'a> Heap<'a> {
             used: NO_ROOM,
             limit: room,
         }
-    }
-
-    /// Gives what every heap keeps to a caller's proof. Runs nothing.
-    pub fn kept(&self)
-        ensures counted { Counted self.now }
-        ensures chained { Chained (thing self.now.slots) (home self.now.slots) (all self.now.slots) }
-        ensures named { All (Within self.now.words.units) self.now.words.names }
-        ensures apart { (n m : ℕ) → n < length self.now.words.names → m < length self.now.words.names → word_of self.now.words n ≡ word_of self.now.words m → n ≡ m }
-        ensures closed { self.now.words.is_open ≡ false → length self.now.words.units ≡ self.now.words.end }
-    {
-        self.slots.chained();
-        self.texts.kept();
     }
 
     /// What stands at an address.
@@ -86,17 +77,20 @@ impl<'a> Heap<'a> {
     pub fn first(&self, r: Ref) -> SlotAt
         requires thing { IsTrue (is_thing self.now.slots r.0) }
         ensures stands { Stands self.now.slots r.0 0 result.0 }
+        ensures chained { Chained (thing self.now.slots) (home self.now.slots) (all self.now.slots) }
         ensures within { (0 < result.0) × (result.0 ≤ length (all self.now.slots)) }
     {
         self.slots.first(r)
     }
 
-    /// The slot after one of a thing's slots; None after the last.
+    /// The slot that follows the one at an address; None where none does.
     pub fn next(&self, at: SlotAt) -> Option<SlotAt>
-        requires { (r k : ℕ) × Stands self.now.slots r k at.0 }
+        requires above { 0 < at.0 }
+        requires within { at.0 ≤ length (all self.now.slots) }
+        ensures next { option_map (λ n. n.0) result ≡ address (get_or (all self.now.slots) (at.0 - 1) blank).next }
         ensures along { (r k : ℕ) → Stands self.now.slots r k at.0 → option_map (λ n. n.0) result ≡ slice_get (places self.now.slots r) (suc k) }
         ensures within { IfSome result (λ n. (0 < n.0) × (n.0 ≤ length (all self.now.slots))) }
-        ensures nearer { IfSome result (λ n. left self.now.slots n.0 < left self.now.slots at.0) }
+        ensures nearer { (r k : ℕ) → Stands self.now.slots r k at.0 → IfSome result (λ n. left self.now.slots n.0 < left self.now.slots at.0) }
     {
         self.slots.next(at)
     }
@@ -126,16 +120,20 @@ impl<'a> Heap<'a> {
         self.texts.find(self.texts.span(text))
     }
 
-    /// How many names stand.
+    /// How many names stand. No two are the same text.
     pub fn names(&self) -> u32
-        ensures { result ≡ length self.now.words.names }
+        ensures count { result ≡ length self.now.words.names }
+        ensures named { All (Within self.now.words.units) self.now.words.names }
+        ensures apart { (n m : ℕ) → n < length self.now.words.names → m < length self.now.words.names → word_of self.now.words n ≡ word_of self.now.words m → n ≡ m }
+        ensures closed { self.now.words.is_open ≡ false → length self.now.words.units ≡ self.now.words.end }
     {
         self.texts.names()
     }
 
     /// What was used since the start or the last restart.
     pub fn used(&self) -> Room
-        ensures { result ≡ self.now.used }
+        ensures used { result ≡ self.now.used }
+        ensures counted { Counted self.now }
     {
         self.used
     }
@@ -162,7 +160,8 @@ impl<'a> Heap<'a> {
     pub fn restart(&mut self, room: Room)
         requires room { Holds (spare self.old) room }
         requires idle { self.old.jobs.waiting ≡ [] }
-        ensures { self.new ≡ record self.old { used = no_room; limit = room } }
+        ensures restarted { self.new ≡ record self.old { used = no_room; limit = room } }
+        ensures sound { Sound self.old → Sound self.new }
     {
         self.used = NO_ROOM;
         self.limit = room;
@@ -197,7 +196,6 @@ impl<'a> Heap<'a> {
     pub fn add(&mut self, r: Ref, after: SlotAt, slot: Slot) -> Result<SlotAt, Full>
         requires owned { Owned self.old.slots r.0 }
         requires of_it { (k : ℕ) × Stands self.old.slots r.0 k after.0 }
-        requires part { is_head_kind slot.kind ≡ false }
         ensures full { MatchResult result (λ _. self.old.used.slots + 1 ≤ self.old.limit.slots) (λ e. (e ≡ Full.Slots) × (self.old.limit.slots < self.old.used.slots + 1)) }
         ensures unchanged { OnErr result (self.new ≡ self.old) }
         ensures at { IfOk result (λ at. at.0 ≡ next_address self.old.slots) }
@@ -212,11 +210,11 @@ impl<'a> Heap<'a> {
         Ok(self.slots.link(r, after, slot))
     }
 
-    /// Puts a slot in the place of one of a thing's slots, of a head a head. Its place in the chain
-    /// stays, and of a head the size and the alias number. It costs nothing.
+    /// Puts a slot in the place of one of a thing's slots: key, kind, flags, value and last are the
+    /// new slot's. Its place in the chain stays, and of a thing's first slot also the alias number
+    /// and, where it is an object's head, the size. It costs nothing.
     pub fn put(&mut self, at: SlotAt, slot: Slot)
         requires of_it { (r k : ℕ) × Owned self.old.slots r × Stands self.old.slots r k at.0 }
-        requires kind { is_head_kind slot.kind ≡ is_head_kind (get_or (all self.old.slots) (at.0 - 1) blank).kind }
         ensures replaced { (r k : ℕ) → Stands self.old.slots r k at.0 → Replaced self.old.slots r k slot self.new.slots }
         ensures rest { self.new ≡ record self.old { slots = self.new.slots } }
         ensures reserved { self.new.slots.reserved ≡ self.old.slots.reserved }
@@ -305,6 +303,7 @@ impl<'a> Heap<'a> {
         ensures limit { IfErr result (λ e. e ≡ Full.Names) }
         ensures unchanged { OnErr result (self.new ≡ self.old) }
         ensures named { IfOk result (λ n. NamedAs self.old (span_of self.old.words text) (text_in self.old.words text) n self.new) }
+        ensures sound { Sound self.old → Sound self.new }
     {
         if let Some(number) = self.find_name(text) {
             return Ok(number);
@@ -322,6 +321,7 @@ impl<'a> Heap<'a> {
         ensures full { MatchResult result (λ _. self.old.used.slots + 4 ≤ self.old.limit.slots) (λ e. (e ≡ Full.Slots) × (self.old.limit.slots < self.old.used.slots + 4)) }
         ensures unchanged { OnErr result (self.new ≡ self.old) }
         ensures queued { OnOk result (self.new ≡ record self.old { jobs = record self.old.jobs { waiting = self.old.jobs.waiting ++ job ∷ [] }; used = slots_more self.old.used 4 }) }
+        ensures sound { Sound self.old → IsJob self.old.slots job → All (ValueStands self.old) job.values → Sound self.new }
     {
         if self.limit.slots - self.used.slots < 4 {
             return Err(Full::Slots);
@@ -336,6 +336,7 @@ impl<'a> Heap<'a> {
         ensures taken { MatchOption result (self.old.jobs.waiting ≡ []) (λ job. self.old.jobs.waiting ≡ job ∷ self.new.jobs.waiting) }
         ensures none { result ≡ None → self.new ≡ self.old }
         ensures rest { self.new ≡ record self.old { jobs = record self.old.jobs { waiting = self.new.jobs.waiting } } }
+        ensures sound { Sound self.old → Sound self.new }
     {
         self.jobs.pop()
     }

@@ -1,21 +1,22 @@
 //! The slots: things in chains, in room that is reserved once.
 
-ghost use Rattle.std.specs.Prelude.{◌≡◌, ℕ, ◌+◌, ◌-◌, ◌<◌, ◌≤◌, ◌^◌, ◌++◌, ◌∷◌, [], length, set, get_or, slice_get, IsTrue, IfOk, IfSome, OnOk, false, option_map, Some, vec_capacity, vec_len};
+ghost use Rattle.std.specs.Prelude.{◌≡◌, ℕ, ◌+◌, ◌-◌, ◌<◌, ◌≤◌, ◌^◌, [], length, get_or, slice_get, IsTrue, IfOk, IfSome, option_map, Some, vec_capacity, vec_len, Bool};
 ghost use Prim.Native.Nat.{suc};
-ghost use Rattle.slot_heap.specs.Slot.{blank, byte_of, head_slot, is_head_kind, is_object_kind, stored};
-ghost use Rattle.slot_heap.specs.Chains.{cell, Chained};
-ghost use Rattle.slot_heap.specs.Shown.{Low, all, cells, home, is_thing, left, next_address, Owned, places, Stands, thing};
+ghost use Rattle.slot_heap.specs.Slot.{blank, head_slot, is_object_kind, stored};
+ghost use Rattle.slot_heap.specs.Chains.{address, cell, Chained};
+ghost use Rattle.slot_heap.specs.Shown.{all, cells, home, is_thing, left, next_address, Owned, places, Stands, thing};
 ghost use Rattle.slot_heap.specs.Steps.{Added, Made, new_cells, Removed, Replaced};
-ghost use Rattle.slot_heap.specs.Writes.{put_behind, put_over, put_past, with_ram};
+ghost use Rattle.slot_heap.specs.Writes.{put_behind, put_over, put_past};
 
 use super::slot::{Kind, Ref, Slot, SlotAt};
 use std::alloc::{AllocError, Global};
 use std::marker::Model;
 
-/// Slots in RAM, each in the chain of a thing.
+/// Slots in RAM, each in the chain of a thing, and of each whether a thing begins there.
 #[derive(Drop)]
 pub struct Slots {
     ram: Vec<Slot>,
+    begins: Vec<bool>,
     reserved: u32,
 }
 
@@ -25,9 +26,9 @@ impl Model for Slots {
 
     ghost Value = { Low };
 
-    ghost view = { λ s. low s.ram.items s.reserved };
+    ghost view = { λ s. low s.ram.items s.begins.items s.reserved };
 
-    ghost invariant = { λ s. Kept (low s.ram.items s.reserved) (vec_len s.ram) (vec_capacity s.ram) };
+    ghost invariant = { λ s. Kept (low s.ram.items s.begins.items s.reserved) (vec_len s.ram) (vec_capacity s.ram) (vec_len s.begins) (vec_capacity s.begins) };
 }
 
 /// A slot with nothing in it.
@@ -43,15 +44,21 @@ pub const BLANK: Slot = Slot {
 impl Slots {
     /// Room for so many slots. Its one refusal is want of memory.
     pub fn reserve(alloc: Global, reserved: u32) -> Result<Slots, AllocError>
-        ensures { IfOk result (λ s. s ≡ record { ram = []; reserved = reserved }) }
+        ensures { IfOk result (λ s. s ≡ record { ram = []; begins = []; reserved = reserved }) }
     {
         let ram = Vec::with_capacity(alloc, reserved as usize)?;
-        Ok(Slots { ram, reserved })
+        let begins = Vec::with_capacity(alloc, reserved as usize)?;
+        Ok(Slots {
+            ram,
+            begins,
+            reserved,
+        })
     }
 
     /// Gives what all slots keep to a caller's proof. Runs nothing.
     pub fn chained(&self)
         ensures chained { Chained (thing self.now) (home self.now) (all self.now) }
+        ensures marked { length self.now.begins ≡ length self.now.ram }
         ensures within { length self.now.ram ≤ self.now.reserved }
         ensures word { self.now.reserved < 2 ^ 32 }
     {
@@ -87,18 +94,21 @@ impl Slots {
     pub fn first(&self, r: Ref) -> SlotAt
         requires thing { IsTrue (is_thing self.now r.0) }
         ensures stands { Stands self.now r.0 0 result.0 }
+        ensures chained { Chained (thing self.now) (home self.now) (all self.now) }
         ensures within { (0 < result.0) × (result.0 ≤ length (all self.now)) }
     {
         self.chained();
         SlotAt(r.0)
     }
 
-    /// The slot after one of a thing's slots.
+    /// The slot that follows the one at an address.
     pub fn next(&self, at: SlotAt) -> Option<SlotAt>
-        requires { (r k : ℕ) × Stands self.now r k at.0 }
+        requires above { 0 < at.0 }
+        requires within { at.0 ≤ length (all self.now) }
+        ensures next { option_map (λ n. n.0) result ≡ address (get_or (all self.now) (at.0 - 1) blank).next }
         ensures along { (r k : ℕ) → Stands self.now r k at.0 → option_map (λ n. n.0) result ≡ slice_get (places self.now r) (suc k) }
         ensures within { IfSome result (λ n. (0 < n.0) × (n.0 ≤ length (all self.now))) }
-        ensures nearer { IfSome result (λ n. left self.now n.0 < left self.now at.0) }
+        ensures nearer { (r k : ℕ) → Stands self.now r k at.0 → IfSome result (λ n. left self.now n.0 < left self.now at.0) }
     {
         self.chained();
         let next = self.slot(at).next;
@@ -131,6 +141,7 @@ impl Slots {
         self.chained();
         let at = self.ram.len() as u32 + 1;
         self.ram.push_reserved(head(kind, prototype));
+        self.begins.push_reserved(true);
         Ref(at)
     }
 
@@ -139,7 +150,6 @@ impl Slots {
         requires room { length self.old.ram < self.old.reserved }
         requires owned { Owned self.old r.0 }
         requires of_it { (k : ℕ) × Stands self.old r.0 k after.0 }
-        requires part { is_head_kind slot.kind ≡ false }
         ensures at { result.0 ≡ next_address self.old }
         ensures reserved { self.new.reserved ≡ self.old.reserved }
         ensures added { (k : ℕ) → Stands self.old r.0 k after.0 → Added self.old r.0 k slot self.new }
@@ -147,18 +157,20 @@ impl Slots {
         self.chained();
         let at = self.ram.len() as u32 + 1;
         link_slots(&mut self.ram, after.0 - 1, slot, at);
+        self.begins.push_reserved(false);
         SlotAt(at)
     }
 
-    /// Puts a slot in the place of one of a thing's slots, of a head a head.
+    /// Puts a slot in the place of one of a thing's slots.
     pub fn put(&mut self, at: SlotAt, slot: Slot)
         requires of_it { (r k : ℕ) × Owned self.old r × Stands self.old r k at.0 }
-        requires kind { is_head_kind slot.kind ≡ is_head_kind (get_or (all self.old) (at.0 - 1) blank).kind }
         ensures reserved { self.new.reserved ≡ self.old.reserved }
         ensures replaced { (r k : ℕ) → Stands self.old r k at.0 → Replaced self.old r k slot self.new }
     {
         self.chained();
-        put_slot(&mut self.ram, at.0 - 1, slot);
+        let place = at.0 - 1;
+        let is_head = self.begins[place as usize];
+        put_slot(&mut self.ram, place, is_head, slot);
     }
 
     /// Leaves out the slot after one of r's slots, which isn't the last.
@@ -185,12 +197,6 @@ fn head(kind: Kind, prototype: Ref) -> Slot
     }
 }
 
-fn is_head(kind: u8) -> bool
-    ensures { result ≡ is_head_kind kind }
-{
-    kind >= 1 && kind <= 8
-}
-
 fn is_object(kind: u8) -> bool
     ensures { result ≡ is_object_kind kind }
 {
@@ -198,17 +204,17 @@ fn is_object(kind: u8) -> bool
 }
 
 // What stands where a slot is put in the place of an old one.
-fn keep(old: Slot, slot: Slot) -> Slot
-    ensures { result ≡ record (stored old slot) { next = old.next } }
+fn keep(old: Slot, is_head: bool, slot: Slot) -> Slot
+    ensures { result ≡ record (stored is_head old slot) { next = old.next } }
 {
     let mut kept = Slot {
         next: old.next,
         ..slot
     };
-    if is_head(old.kind) {
+    if is_head {
         kept.last = old.last;
     }
-    if is_object(old.kind) && is_object(slot.kind) {
+    if is_head && is_object(old.kind) {
         kept.value = slot.value / 0x1_0000_0000 * 0x1_0000_0000 + old.value % 0x1_0000_0000;
     }
     kept
@@ -227,14 +233,14 @@ fn link_slots(ram: &mut Vec<Slot>, place: u32, slot: Slot, at: u32)
     ram[place as usize].next = at;
 }
 
-fn put_slot(ram: &mut Vec<Slot>, place: u32, slot: Slot)
+fn put_slot(ram: &mut Vec<Slot>, place: u32, is_head: bool, slot: Slot)
     requires within { place < vec_len ram.old }
-    ensures items { ram.new.items ≡ put_over ram.old.items place slot }
+    ensures items { ram.new.items ≡ put_over ram.old.items place is_head slot }
     ensures len { vec_len ram.new ≡ vec_len ram.old }
     ensures capacity { vec_capacity ram.new ≡ vec_capacity ram.old }
 {
     let old = ram[place as usize];
-    ram[place as usize] = keep(old, slot);
+    ram[place as usize] = keep(old, is_head, slot);
 }
 
 fn cut_slot(ram: &mut Vec<Slot>, place: u32)

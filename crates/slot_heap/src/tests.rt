@@ -11,9 +11,7 @@ const AMPLE: Room = Room {
 
 const UNDEFINED: [Value; 3] = [Value::Undefined, Value::Undefined, Value::Undefined];
 
-fn data(key: u16) -> Slot
-    ensures { result.kind ≡ 16 }
-{
+fn data(key: u16) -> Slot {
     Slot {
         next: 0,
         key,

@@ -49,19 +49,13 @@ impl Texts {
         })
     }
 
-    /// Gives what all texts keep to a caller's proof. Runs nothing.
-    pub fn kept(&self)
-        ensures named { All (Within self.now.units) self.now.names }
-        ensures apart { (n m : ℕ) → n < length self.now.names → m < length self.now.names → word_of self.now n ≡ word_of self.now m → n ≡ m }
-        ensures closed { self.now.is_open ≡ false → length self.now.units ≡ self.now.end }
-    {
-        let _units = &self.units;
-    }
-
     /// How many names stand.
     pub fn names(&self) -> u32
         ensures count { result ≡ length self.now.names }
         ensures room { length self.now.names ≤ self.now.reserved_names }
+        ensures named { All (Within self.now.units) self.now.names }
+        ensures apart { (n m : ℕ) → n < length self.now.names → m < length self.now.names → word_of self.now n ≡ word_of self.now m → n ≡ m }
+        ensures closed { self.now.is_open ≡ false → length self.now.units ≡ self.now.end }
     {
         self.names.len() as u32
     }

@@ -32,15 +32,15 @@ cut_slot-requires-clause-next c =
 pub invariant_of-self : goal.invariant_of-self
 invariant_of-self c =
     let v = c.self.view_is in
-    let w = written (λ s. put_past s (c.args.after.0 - 1)) _ _ _ _ v c.cut_slot.ensures.items in
+    let w = written (λ s. put_past s (c.args.after.0 - 1)) _ _ _ _ _ v c.cut_slot.ensures.items in
     let o = removed _ _ _ _ c.chained.ensures.chained c.requires.of_it.1 c.requires.of_it.2 in
     let k = c.self.invariant.within in
     let n = c.cut_slot.ensures.len in
-    kept_after _ _ _ _ _ _ c.self.invariant (subst Sound (sym w) o.0) refl (omega arith) c.cut_slot.ensures.capacity
+    kept_after _ _ _ _ _ _ _ _ _ _ c.self.invariant (subst Sound (sym w) o.0) refl (omega arith) c.cut_slot.ensures.capacity (let m = c.self.invariant.marked in omega arith) refl
 
 pub returns-clause-removed : goal.returns-clause-removed
 returns-clause-removed c = λ k s.
     let v = c.self.view_is in
-    let w = written (λ s. put_past s (c.args.after.0 - 1)) _ _ _ _ v c.cut_slot.ensures.items in
+    let w = written (λ s. put_past s (c.args.after.0 - 1)) _ _ _ _ _ v c.cut_slot.ensures.items in
     let l = more_after _ _ _ _ _ c.chained.ensures.chained c.requires.of_it.1 s c.requires.of_it.2 in
     subst (λ h. Removed c.args.self.now c.args.r.0 k h) (sym w) (removed _ _ _ _ c.chained.ensures.chained s l).1

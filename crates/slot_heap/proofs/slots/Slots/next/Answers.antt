@@ -4,15 +4,13 @@ use Rattle.slot_heap.specs.Chains.{address}
 use Rattle.slot_heap.proofs.Written.{stands_at, address_of, within_next}
 use Rattle.slot_heap.proofs.slots.Slots.next.Goals as goal
 
-pub slot-next-requires-clause-above : goal.slot-next-requires-clause-above
-slot-next-requires-clause-above c = (stands_at _ _ _ _ c.chained.ensures.chained c.requires.2).above
+pub returns-then-next-eq0-clause-next : goal.returns-then-next-eq0-clause-next
+returns-then-next-eq0-clause-next c =
+    ap address (sym c.if-next-eq0.true ∙ ap (λ (x : Slot). x.next) c.slot-next.ensures.slot)
 
-pub slot-next-requires-clause-within : goal.slot-next-requires-clause-within
-slot-next-requires-clause-within c =
-    let w = stands_at _ _ _ _ c.chained.ensures.chained c.requires.2 in
-    let e = w.address_is in
-    let l = w.within in
-    omega arith
+pub returns-else-next-eq0-clause-next : goal.returns-else-next-eq0-clause-next
+returns-else-next-eq0-clause-next c =
+    sym (address_of _ c.if-next-eq0.false) ∙ ap address (ap (λ (x : Slot). x.next) c.slot-next.ensures.slot)
 
 pub returns-then-next-eq0-clause-along : goal.returns-then-next-eq0-clause-along
 returns-then-next-eq0-clause-along c = λ r k s.
@@ -25,9 +23,9 @@ returns-else-next-eq0-clause-along c = λ r k s.
     sym ((stands_at _ _ _ _ c.chained.ensures.chained s).next ∙ ap address (sym f) ∙ address_of _ c.if-next-eq0.false)
 
 pub returns-else-next-eq0-clause-nearer : goal.returns-else-next-eq0-clause-nearer
-returns-else-next-eq0-clause-nearer c =
+returns-else-next-eq0-clause-nearer c = λ r k s.
     let f = ap (λ (x : Slot). x.next) c.slot-next.ensures.slot in
-    rw f (stands_at _ _ _ _ c.chained.ensures.chained c.requires.2).nearer
+    rw f (stands_at _ _ _ _ c.chained.ensures.chained s).nearer
 
 pub returns-else-next-eq0-clause-within : goal.returns-else-next-eq0-clause-within
 returns-else-next-eq0-clause-within c =

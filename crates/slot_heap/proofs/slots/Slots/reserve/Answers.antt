@@ -7,5 +7,7 @@ pub invariant_of-result : goal.invariant_of-result
 invariant_of-result c =
     let e = c.in_ok-ram.ensures.len in
     let f = c.in_ok-ram.ensures.exact in
-    let kept : Kept _ _ _ = record { chained = rw c.in_ok-ram.ensures.items (sound_none c.args.reserved); within = omega arith; reserved = omega arith; word = omega arith } in
+    let g = c.in_ok-begins.ensures.len in
+    let d = c.in_ok-begins.ensures.exact in
+    let kept : Kept _ _ _ _ _ = record { chained = rw (c.in_ok-ram.ensures.items, c.in_ok-begins.ensures.items) (sound_none c.args.reserved); within = omega arith; reserved = omega arith; marked = omega arith; mark_room = omega arith; word = omega arith } in
     kept
