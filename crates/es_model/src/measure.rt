@@ -20,6 +20,7 @@ ghost use Rattle.es_model.specs.ModuleView.{item_of};
 
 use crate::items::{Default, Item, Module};
 use crate::kinds::FunctionKind;
+use crate::list::TreeList;
 use crate::tree::{
     Case, Class, Declarator, Expression, ExpressionForm, Function, FunctionBody, Head, Key, Member,
     Statement, StatementForm,
@@ -194,7 +195,7 @@ fn of_expressions(expressions: &[Expression]) -> Counts
 }
 
 #[cycle(counts)]
-fn of_arguments(arguments: &Option<Vec<Expression>>) -> Counts
+fn of_arguments(arguments: &Option<TreeList<Expression>>) -> Counts
     ensures nesting { result.nesting ≡ min (nesting (optional_list arguments.now)) u32.MAX }
     ensures functions { result.functions ≡ min (length (functions (optional_list arguments.now))) u32.MAX }
 {
@@ -291,7 +292,7 @@ fn of_statements(statements: &[Statement]) -> Counts
 }
 
 #[cycle(counts)]
-fn of_block(block: &Option<Vec<Statement>>) -> Counts
+fn of_block(block: &Option<TreeList<Statement>>) -> Counts
     ensures nesting { result.nesting ≡ min (nesting (optional_list block.now)) u32.MAX }
     ensures functions { result.functions ≡ min (length (functions (optional_list block.now))) u32.MAX }
 {

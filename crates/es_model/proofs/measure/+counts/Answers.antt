@@ -56,10 +56,10 @@ pub of_other-of_statement-requires : goal.of_other-of_statement-requires
 of_other-of_statement-requires t c = (omega (arith, c.decreases, ap tree_size c.deref.ensures, ap (λ o. tree_size (optional o)) c.in-Some.is), tt)
 
 pub of_arguments-of_expressions-requires : goal.of_arguments-of_expressions-requires
-of_arguments-of_expressions-requires t c = (omega (arith, c.decreases, ap (λ l. tree_size (listed l)) c.as_slice.ensures.value, ap (λ o. tree_size (optional_list o)) c.in-Some.is), tt)
+of_arguments-of_expressions-requires t c = (omega (arith, c.decreases, ap (λ l. tree_size (listed l)) c.as_slice.ensures, ap (λ o. tree_size (optional_list o)) c.in-Some.is), tt)
 
 pub of_block-of_statements-requires : goal.of_block-of_statements-requires
-of_block-of_statements-requires t c = (omega (arith, c.decreases, ap (λ l. tree_size (listed l)) c.as_slice.ensures.value, ap (λ o. tree_size (optional_list o)) c.in-Some.is), tt)
+of_block-of_statements-requires t c = (omega (arith, c.decreases, ap (λ l. tree_size (listed l)) c.as_slice.ensures, ap (λ o. tree_size (optional_list o)) c.in-Some.is), tt)
 
 pub of_key-of_expression-requires : goal.of_key-of_expression-requires
 of_key-of_expression-requires t c = (omega (arith, c.decreases, ap tree_size c.deref.ensures, ap (λ k. tree_size (key_of k)) c.in-Computed.is), tt)
@@ -68,4 +68,4 @@ pub of_head-of_expression-requires : goal.of_head-of_expression-requires
 of_head-of_expression-requires t c = (omega (arith, c.decreases, ap tree_size c.deref.ensures, ap (λ h. tree_size (head_of h)) c.in-Value.is), tt)
 
 pub of_head-of_declarators-requires : goal.of_head-of_declarators-requires
-of_head-of_declarators-requires t c = (omega (arith, c.decreases, ap (λ l. tree_size (listed (map declarator_of l))) c.as_slice.ensures.value, ap (λ h. tree_size (head_of h)) c.in-Declare.is), tt)
+of_head-of_declarators-requires t c = (omega (arith, c.decreases, ap (λ l. tree_size (listed (map declarator_of l))) c.as_slice.ensures, ap (λ h. tree_size (head_of h)) c.in-Declare.is), tt)
