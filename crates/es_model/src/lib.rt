@@ -25,3 +25,6 @@ pub use tree::{
     Statement, StatementForm,
 };
 pub use words::{keyword, keyword_text, sign, sign_text};
+
+#[cfg(test)]
+mod tests;
