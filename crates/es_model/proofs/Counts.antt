@@ -1,5 +1,5 @@
 -- One pass finds both counts of a tree, and how they grow by an element of a list.
-use Rattle.std.proofs.Common.{◌≡◌, ℕ, zero, suc, ◌+◌, ◌<◌, max, min, Bool, true, false, length, List, [], ◌∷◌, ◌++◌, map, take, refl, ap, sym, ◌∙◌, subst, arith, slice_index_or, length-append, add-one}
+use Rattle.std.proofs.Common.{◌≡◌, ℕ, zero, suc, ◌+◌, ◌<◌, max, min, Bool, true, false, length, List, [], ◌∷◌, ◌++◌, map, take, refl, ap, sym, ◌∙◌, subst, arith, slice_index_or, length-append, append-nil, add-one}
 use Rattle.std.specs.Prelude.{◌||◌}
 use Rattle.std.specs.List.{list_any}
 use Rattle.es_model.specs.declared.measure.Counts.{Counts}
@@ -11,34 +11,35 @@ use Rattle.es_model.specs.Nesting.{nesting}
 use Rattle.es_model.specs.Functions.{FunctionForm, functions, inner, generated, function_count, is_constructor, writes_constructor}
 use Rattle.es_model.specs.Counted.{nothing_counted, beside, inside, and_function, with_constructor, counted}
 
-abbrev cap : ℕ → ℕ
+abbrev pub cap : ℕ → ℕ
 cap n = min n 4294967295
 
 -- counts of a tree with this nesting and these functions
-abbrev Are : ℕ → List FunctionForm → Counts → Type 0
-Are n forms counts = (counts.nesting ≡ cap n) × (counts.functions ≡ cap (length forms))
+pub record Are (n : ℕ) (forms : List FunctionForm) (counts : Counts) : Type 0 where
+  pub deep : counts.nesting ≡ cap n
+  pub many : counts.functions ≡ cap (length forms)
 
 nothing_is : Are 0 [] nothing_counted
-nothing_is = (omega arith, omega arith)
+nothing_is = record { deep = omega arith; many = omega arith }
 
 beside_is : {n m : ℕ} {fs gs : List FunctionForm} {a b : Counts} → Are n fs a → Are m gs b → Are (max n m) (fs ++ gs) (beside a b)
 unfolding beside
-beside_is {fs = fs} {gs = gs} h g = (omega (arith, h.0, g.0), omega (arith, h.1, g.1, length-append fs gs))
+beside_is {fs = fs} {gs = gs} h g = record { deep = omega (arith, h.deep, g.deep); many = omega (arith, h.many, g.many, length-append fs gs) }
 
 inside_is : {n : ℕ} {fs : List FunctionForm} {a : Counts} → Are n fs a → Are (suc n) fs (inside a)
 unfolding inside
-inside_is h = (omega (arith, h.0), h.1)
+inside_is h = record { deep = omega (arith, h.deep); many = h.many }
 
 and_function_is : {n : ℕ} {form : FunctionForm} {fs : List FunctionForm} {a : Counts} → Are n fs a → Are n (form ∷ fs) (and_function a)
 unfolding and_function
-and_function_is h = (h.0, omega (arith, h.1))
+and_function_is h = record { deep = h.deep; many = omega (arith, h.many) }
 
 with_constructor_is : {n : ℕ} {fs : List FunctionForm} {a : Counts} (written : Bool) (class : Tree t.class) → Are n fs a → Are n (generated written class ++ fs) (with_constructor written a)
 with_constructor_is true class h = h
 with_constructor_is false class h = and_function_is h
 
 same_counts : {n m : ℕ} {fs gs : List FunctionForm} {a : Counts} → n ≡ m → length fs ≡ length gs → Are n fs a → Are m gs a
-same_counts e d h = (h.0 ∙ ap cap e, h.1 ∙ ap cap d)
+same_counts e d h = record { deep = h.deep ∙ ap cap e; many = h.many ∙ ap cap d }
 
 functions_inner : (f : Tree t.function) → length (functions f) ≡ suc (length (inner f))
 unfolding functions inner
@@ -84,7 +85,7 @@ counted_is (t.KeyWord _) = nothing_is
 counted_is (t.KeyString _) = nothing_is
 counted_is (t.KeyNumber _) = nothing_is
 counted_is (t.KeyComputed a0) = counted_is a0
-counted_is (t.MemberOf _ _ _ a3 a4 t.absent) = same_counts (omega arith) refl (beside_is (counted_is a3) (counted_is a4))
+counted_is (t.MemberOf _ _ _ a3 a4 t.absent) = same_counts refl (ap (λ fs. length (functions a3 ++ fs)) (append-nil (functions a4))) (beside_is (counted_is a3) (beside_is (counted_is a4) nothing_is))
 counted_is (t.MemberOf _ _ _ a3 a4 (t.present a5)) = same_counts refl (omega (arith, functions_inner a5, length-append (functions a3) (functions a4 ++ functions a5), length-append (functions a4) (functions a5), length-append (functions a3) (functions a4 ++ inner a5), length-append (functions a4) (inner a5))) (beside_is (counted_is a3) (beside_is (counted_is a4) (counted_is a5)))
 counted_is (t.FunctionOf _ _ _ _ a4) = and_function_is (inside_is (counted_is a4))
 counted_is (t.BodyStatements a0) = counted_is a0
@@ -126,11 +127,11 @@ counted_is t.absent = nothing_is
 counted_is (t.present a0) = counted_is a0
 
 pub counted_nesting : {s : t.Sort} → (tree : Tree s) → (counted tree).nesting ≡ min (nesting tree) 4294967295
-counted_nesting tree = (counted_is tree).0
+counted_nesting tree = (counted_is tree).deep
 
 pub counted_functions : (items : Tree (t.list t.item)) → (and_function (counted items)).functions ≡ min (function_count items) 4294967295
 unfolding and_function
-counted_functions items = omega (arith, (counted_is items).1)
+counted_functions items = omega (arith, (counted_is items).many)
 
 -- the counts of a list's front, longer by the element x
 
@@ -139,7 +140,7 @@ counts_same a b e d = λ i. record { nesting = e i; functions = d i }
 
 beside_nothing : {s : t.Sort} → (tree : Tree s) → beside (counted tree) nothing_counted ≡ counted tree
 unfolding beside
-beside_nothing tree = counts_same (beside (counted tree) nothing_counted) (counted tree) (omega arith) (omega (arith, (counted_is tree).1))
+beside_nothing tree = counts_same (beside (counted tree) nothing_counted) (counted tree) (omega arith) (omega (arith, (counted_is tree).many))
 
 beside_joined : (a b c : Counts) → beside a (beside b c) ≡ beside (beside a b) c
 unfolding beside
@@ -147,7 +148,7 @@ beside_joined a b c = counts_same (beside a (beside b c)) (beside (beside a b) c
 
 nothing_beside : {s : t.Sort} → (tree : Tree s) → beside nothing_counted (counted tree) ≡ counted tree
 unfolding beside
-nothing_beside tree = counts_same (beside nothing_counted (counted tree)) (counted tree) (omega arith) (omega (arith, (counted_is tree).1))
+nothing_beside tree = counts_same (beside nothing_counted (counted tree)) (counted tree) (omega arith) (omega (arith, (counted_is tree).many))
 
 counted_by : {A : Type 0} {s : t.Sort} → (f : A → Tree s) (xs : List A) (i : ℕ) (d : A) → i < length xs → counted (listed (map f (take (suc i) xs))) ≡ beside (counted (listed (map f (take i xs)))) (counted (f (slice_index_or xs i d)))
 unfolding counted

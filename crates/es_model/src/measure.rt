@@ -17,6 +17,7 @@ ghost use Rattle.es_model.specs.View.{
   statement_of,
   optional,
   optional_list,
+  optional_function,
   function_of,
   class_of,
   member_of,
@@ -366,11 +367,18 @@ fn of_members(members: &[Member]) -> Counts
 fn of_member(member: &Member) -> Counts
     ensures { result ≡ counted (member_of member.now) }
 {
-    let key = of_key(&member.key);
     let value = of_optional(&member.value);
-    match &member.function {
-        Some(function) => key.beside(value.beside(of_function(function))),
-        None => key.beside(value),
+    let function = of_optional_function(&member.function);
+    of_key(&member.key).beside(value.beside(function))
+}
+
+#[cycle(counts)]
+fn of_optional_function(function: &Option<Box<Function>>) -> Counts
+    ensures { result ≡ counted (optional_function function.now) }
+{
+    match function {
+        Some(function) => of_function(function),
+        None => Counts::none(),
     }
 }
 

@@ -70,7 +70,7 @@ fn items_in_order(rt: HostRuntime) -> Result<(), AllocError> {
     let mut list = TreeList::new(rt.alloc());
     list.push(5u32)?;
     list.push(4)?;
-    assert_eq!(rt; list.as_slice(), &[5, 4]);
+    assert_eq!(rt; list.as_slice(), [5, 4].as_slice());
     Ok(())
 }
 

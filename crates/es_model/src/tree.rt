@@ -1,5 +1,5 @@
-use crate::list::TreeList;
 use crate::kinds::{BinaryOperator, FunctionKind, MemberKind, Semi, UnaryOperator};
+use crate::list::TreeList;
 use crate::names::Identifier;
 use js_value::Units;
 use std::marker::Model;

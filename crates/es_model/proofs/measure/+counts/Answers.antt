@@ -1,6 +1,6 @@
 use Rattle.std.proofs.Common.{ap, map, sym, arith}
 use Rattle.es_model.specs.Tree.{listed, tree_size}
-use Rattle.es_model.specs.View.{optional, optional_list, member_of, key_of, head_of, declarator_of, case_of}
+use Rattle.es_model.specs.View.{optional, optional_list, optional_function, function_of, member_of, key_of, head_of, declarator_of, case_of}
 use Rattle.es_model.proofs.Counts.{counted_taken, counted_mapped, element_smaller, mapped_smaller}
 use Rattle.es_model.proofs.measure.+counts.Goals as goal
 
@@ -39,6 +39,9 @@ of_optional-of_expression-requires t c = (omega (arith, c.decreases, ap tree_siz
 
 pub of_other-of_statement-requires : goal.of_other-of_statement-requires
 of_other-of_statement-requires t c = (omega (arith, c.decreases, ap tree_size c.deref.ensures, ap (λ o. tree_size (optional o)) c.in-Some.is), tt)
+
+pub of_optional_function-of_function-requires : goal.of_optional_function-of_function-requires
+of_optional_function-of_function-requires t c = (omega (arith, c.decreases, ap (λ f. tree_size (function_of f)) c.deref.ensures, ap (λ o. tree_size (optional_function o)) c.in-Some.is), tt)
 
 pub of_arguments-of_expressions-requires : goal.of_arguments-of_expressions-requires
 of_arguments-of_expressions-requires t c = (omega (arith, c.decreases, ap (λ l. tree_size (listed l)) c.as_slice.ensures, ap (λ o. tree_size (optional_list o)) c.in-Some.is), tt)

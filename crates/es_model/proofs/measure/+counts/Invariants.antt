@@ -1,7 +1,7 @@
 use Rattle.std.proofs.Common.{◌≡◌, ℕ, ◌+◌, ◌*◌, map, take}
 use Rattle.es_model.specs.Tree.{listed, tree_size}
 use Rattle.es_model.specs.Counted.{counted}
-use Rattle.es_model.specs.View.{expression_of, statement_of, optional, optional_list, function_of, class_of, member_of, key_of, head_of, declarator_of, case_of}
+use Rattle.es_model.specs.View.{expression_of, statement_of, optional, optional_list, optional_function, function_of, class_of, member_of, key_of, head_of, declarator_of, case_of}
 use Rattle.es_model.proofs.measure.+counts.Given as goal
 
 abbrev pub invariant-of_expressions-loop-expression : goal.invariant-of_expressions-loop-expression
@@ -61,6 +61,9 @@ decreases-of_members l = 2 * tree_size (listed (map member_of l.members.now))
 
 abbrev pub decreases-of_member : goal.decreases-of_member
 decreases-of_member l = 2 * tree_size (member_of l.member.now)
+
+abbrev pub decreases-of_optional_function : goal.decreases-of_optional_function
+decreases-of_optional_function l = 2 * tree_size (optional_function l.function.now)
 
 abbrev pub decreases-of_key : goal.decreases-of_key
 decreases-of_key l = 2 * tree_size (key_of l.key.now)
