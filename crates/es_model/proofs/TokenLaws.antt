@@ -1,6 +1,6 @@
 -- Laws of `tokens_of`: its parts, joined, are the text; an accepted list has one End, its last, and the
 -- places of its tokens ascend strictly.
-use Rattle.std.proofs.Common.{◌≡◌, ℕ, zero, suc, ◌+◌, ◌-◌, ◌≤◌, cond, Bool, true, false, ◌&&◌, ◌||◌, ◌==◌, List, [], ◌∷◌, ◌++◌, length, take, drop, take_while, codes, Option, Some, None, Result, Ok, Err, refl, ap, ◌∙◌, take-append-drop, append-nil, subst, arith}
+use Rattle.std.proofs.Common.{◌≡◌, ℕ, zero, suc, ◌+◌, ◌-◌, ◌/◌, ◌%◌, ◌≤◌, nat_lt, cond, Bool, true, false, ◌&&◌, ◌||◌, ◌==◌, List, [], ◌∷◌, ◌++◌, length, take, drop, take_while, codes, Option, Some, None, Result, Ok, Err, refl, ap, ◌∙◌, take-append-drop, append-nil, subst, arith}
 use Rattle.std.specs.List.{flat_map, list_any}
 use Rattle.js_value.specs.Text.{parts, sequence_length, utf16, encoded}
 use Rattle.es_model.specs.declared.faults.LexFault.{LexFault}
@@ -137,16 +137,15 @@ ends_once bytes tokens e = subst Good e (good_at bytes (s.first_bad 0 (parts seq
 
 -- The places of an accepted list ascend strictly, since each character has a byte.
 
-long_if : (b : Bool) (xs ys : List ℕ) → 1 ≤ length xs → 1 ≤ length ys → 1 ≤ length (cond b xs ys)
-long_if true xs ys h g = h
-long_if false xs ys h g = g
-
-long : (x : ℕ) (xs : List ℕ) → 1 ≤ length (x ∷ xs)
-long x xs = omega arith
-
 wide : (c : ℕ) → 1 ≤ width c
 unfolding encoded
-wide c = long_if _ _ _ (long _ _) (long_if _ _ _ (long _ _) (long_if _ _ _ (long _ _) (long _ _)))
+wide c = by (nat_lt c 0x80) (nat_lt c 0x800) (nat_lt c 0x10000)
+  where
+    by : (one two three : Bool) → 1 ≤ length (cond one (c ∷ []) (cond two ((0xC0 + c / 64) ∷ (0x80 + c % 64) ∷ []) (cond three ((0xE0 + c / 4096) ∷ (0x80 + c / 64 % 64) ∷ (0x80 + c % 64) ∷ []) ((0xF0 + c / 262144) ∷ (0x80 + c / 4096 % 64) ∷ (0x80 + c / 64 % 64) ∷ (0x80 + c % 64) ∷ []))))
+    by true two three = omega arith
+    by false true three = omega arith
+    by false false true = omega arith
+    by false false false = omega arith
 
 abbrev Ascending : ℕ → Result (List Token) LexFault → Type 0
 Ascending low (Ok tokens) = AscendFrom low tokens
