@@ -375,10 +375,10 @@ STRUCTS = ['Function', 'Class', 'Member', 'Declarator', 'Case']
 
 def seen(owner, kind, a):
     if is_data(kind):
-        return f'{a}.items' if kind.startswith('D:List') else a
+        return a
     if kind.startswith('L:'):
         inner = kind[2:]
-        return f'(listed {a}.items)' if inner in (E, S) else f'(listed (map {inner.lower()}_of {a}.items))'
+        return f'(listed {a})' if inner in (E, S) else f'(listed (map {inner.lower()}_of {a}))'
     if kind.startswith('O:L:'):
         return f'(optional_list {a})'
     if kind in ('O:' + E, 'O:' + S):
@@ -391,7 +391,7 @@ def seen(owner, kind, a):
 
 def view_file():
     out = HEAD + '-- What the types of src/ are, as pure trees: each is seen one level deep, and a child is its value.\n'
-    out += 'use Rattle.std.specs.Prelude.{map, Option, Some, None, Vec, Box}\nuse Rattle.std.specs.declared.alloc.Global.{Global}\n'
+    out += 'use Rattle.std.specs.Prelude.{map, List, Option, Some, None, Box}\nuse Rattle.std.specs.declared.alloc.Global.{Global}\n'
     for name, letter in LETTER.items():
         declared, file = DECLARED.get(name, name), FILE.get(name, 'tree')
         out += f'use Rattle.es_model.specs.declared.{file}.{declared}.{{{declared}}}\n'
@@ -404,9 +404,9 @@ abbrev pub optional : {s : t.Sort} → Option (Box (Tree s) Global) → Tree (t.
 optional None = t.absent
 optional (Some a) = t.present a.value
 
-abbrev pub optional_list : {s : t.Sort} → Option (Vec (Tree s) Global) → Tree (t.option (t.list s))
+abbrev pub optional_list : {s : t.Sort} → Option (List (Tree s)) → Tree (t.option (t.list s))
 optional_list None = t.absent
-optional_list (Some a) = t.present (listed a.items)
+optional_list (Some a) = t.present (listed a)
 
 '''
     for name in ['Key', 'Body', 'Function', 'Member', 'Class', 'Declarator', 'Case', 'Head', 'Expression', 'Statement']:

@@ -1,5 +1,5 @@
 -- Trees, and tokens, that the grammar refuses.
-use Rattle.std.proofs.Common.{◌≡◌, ℕ, true, false, List, ◌∷◌, None, sym, subst, arith}
+use Rattle.std.proofs.Common.{◌≡◌, ℕ, true, false, List, [], ◌∷◌, pos, None, sym, subst, arith}
 use Rattle.es_model.specs.declared.kinds.Semi.{Semi}
 use Rattle.es_model.specs.declared.kinds.Semi.TheVariants as semi
 use Rattle.es_model.specs.declared.kinds.BinaryOperator.TheVariants as b
@@ -9,7 +9,8 @@ use Rattle.es_model.specs.declared.token.TokenKind.TheVariants as k
 use Rattle.es_model.specs.Tree as t
 use Rattle.es_model.specs.Tree.{Tree}
 use Rattle.es_model.specs.Readings.{Tokens, First, word, the, same_line, semicolon, may_miss, may_miss_bare}
-use Rattle.es_model.specs.Spelling.{Spells}
+use Rattle.es_model.specs.Spelling.{Spells, spells}
+use Rattle.es_model.proofs.ModuleLaws.{signs_pair_off}
 use Rattle.es_model.proofs.Rows.{token, lined}
 
 -- `-2 ** 2`
@@ -89,3 +90,8 @@ missing_on_one_line name rest to h = let e : may_miss_bare (token (k.Name name) 
 -- `=>` after a line break
 arrow_after_line : (rest to : Tokens) → same_line (the "=>") (lined (k.Sign 51) 0 ∷ rest) to → ⊥
 arrow_after_line rest to h = cc (h.0)
+
+-- `(1` is no module, whatever the tree: its one sign is an opening one
+pub open_parenthesis : (items : Tree (t.list t.item)) → spells items (token (k.Sign 2) 0 ∷ token (k.Number (pos 1)) 1 ∷ token k.End 2 ∷ []) → ⊥
+unfolding word
+open_parenthesis items h = let e = signs_pair_off items (token (k.Sign 2) 0 ∷ token (k.Number (pos 1)) 1 ∷ token k.End 2 ∷ []) h in cc e

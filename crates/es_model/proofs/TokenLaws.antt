@@ -1,13 +1,15 @@
--- Laws of `tokens_of`: its parts, joined, are the text, and an accepted list has one End, its last.
-use Rattle.std.proofs.Common.{◌≡◌, ℕ, zero, suc, ◌+◌, ◌-◌, Bool, true, false, ◌&&◌, ◌||◌, ◌==◌, List, [], ◌∷◌, ◌++◌, length, take, drop, take_while, codes, Option, Some, None, Result, Ok, Err, refl, ap, ◌∙◌, take-append-drop, append-nil, subst}
+-- Laws of `tokens_of`: its parts, joined, are the text; an accepted list has one End, its last, and the
+-- places of its tokens ascend strictly.
+use Rattle.std.proofs.Common.{◌≡◌, ℕ, zero, suc, ◌+◌, ◌-◌, ◌/◌, ◌%◌, ◌≤◌, nat_lt, cond, Bool, true, false, ◌&&◌, ◌||◌, ◌==◌, List, [], ◌∷◌, ◌++◌, length, take, drop, take_while, codes, Option, Some, None, Result, Ok, Err, refl, ap, ◌∙◌, take-append-drop, append-nil, subst, arith}
 use Rattle.std.specs.List.{flat_map, list_any}
-use Rattle.js_value.specs.Text.{parts, sequence_length, utf16}
+use Rattle.js_value.specs.Text.{parts, sequence_length, utf16, encoded}
 use Rattle.es_model.specs.declared.faults.LexFault.{LexFault}
 use Rattle.es_model.specs.declared.faults.LexFault.TheVariants.{NotUtf8, BadCharacter, OpenComment, OpenTemplate, NumberForm}
 use Rattle.es_model.specs.declared.token.Token.{Token}
 use Rattle.es_model.specs.declared.token.TokenKind.{TokenKind}
 use Rattle.es_model.specs.declared.token.TokenKind.TheVariants as k
 use Rattle.es_model.specs.Readings.{same_kind, is_end}
+use Rattle.es_model.specs.SyntaxLaws.{AscendFrom}
 use Rattle.es_model.specs.Tokens as s
 use Rattle.es_model.specs.Tokens.{Element, Between, Word, Wrong, Brace, Part, parts_of, element, braces_after, width}
 
@@ -132,3 +134,50 @@ good_at bytes None = good_after 0 [] 0 (s.characters_of bytes) false
 pub ends_once : (bytes : List ℕ) (tokens : List Token) → s.tokens_of bytes ≡ Ok tokens → EndsOnce tokens
 unfolding s.tokens_of
 ends_once bytes tokens e = subst Good e (good_at bytes (s.first_bad 0 (parts sequence_length bytes)))
+
+-- The places of an accepted list ascend strictly, since each character has a byte.
+
+wide : (c : ℕ) → 1 ≤ width c
+unfolding encoded
+wide c = by (nat_lt c 0x80) (nat_lt c 0x800) (nat_lt c 0x10000)
+  where
+    by : (one two three : Bool) → 1 ≤ length (cond one (c ∷ []) (cond two ((0xC0 + c / 64) ∷ (0x80 + c % 64) ∷ []) (cond three ((0xE0 + c / 4096) ∷ (0x80 + c / 64 % 64) ∷ (0x80 + c % 64) ∷ []) ((0xF0 + c / 262144) ∷ (0x80 + c / 4096 % 64) ∷ (0x80 + c / 64 % 64) ∷ (0x80 + c % 64) ∷ []))))
+    by true two three = omega arith
+    by false true three = omega arith
+    by false false true = omega arith
+    by false false false = omega arith
+
+abbrev Ascending : ℕ → Result (List Token) LexFault → Type 0
+Ascending low (Ok tokens) = AscendFrom low tokens
+Ascending low (Err fault) = Unit {0}
+
+before_ascending : (low : ℕ) (token : Token) (r : Result (List Token) LexFault) → low ≤ token.at → Ascending (suc token.at) r → Ascending low (s.before token r)
+before_ascending low token (Ok tokens) le h = (le, h)
+before_ascending low token (Err fault) le h = tt
+
+ending_ascending : (low at : ℕ) (line : Bool) (o : Option ℕ) → low ≤ at → Ascending low (s.tokens_in line (record { at = at; element = elim o [ Some begun ↦ Wrong (OpenTemplate begun) | None ↦ Word k.End 0 ]; spelling = [] } ∷ []))
+ending_ascending low at line (Some begun) le = tt
+ending_ascending low at line None le = (le, tt)
+
+ascending_after : (low passed : ℕ) (braces : List Brace) (at : ℕ) (text : List ℕ) (line : Bool) → low ≤ at → Ascending low (s.tokens_in line (parts_of passed braces at text))
+ascending_after low passed braces at [] line le = ending_ascending low at line (s.innermost braces) le
+ascending_after low (suc passed) braces at (c ∷ cs) line le = ascending_after low passed braces (at + width c) cs line (omega (arith, le))
+ascending_after low zero braces at (c ∷ cs) line le =
+    elim (element braces at c cs) as (λ e. Ascending low (s.tokens_in line (elim e [
+      | Between breaks more ↦ record { at = at; element = Between breaks more; spelling = c ∷ take more cs } ∷ parts_of more braces (at + width c) cs
+      | Word kind more ↦ record { at = at; element = Word kind more; spelling = c ∷ take more cs } ∷ parts_of more (braces_after at kind braces) (at + width c) cs
+      | Wrong fault ↦ record { at = at; element = Wrong fault; spelling = c ∷ cs } ∷ []
+    ]))) [
+      | Between breaks more ↦ ascending_after low more braces (at + width c) cs (line || breaks) (omega (arith, le))
+      | Word kind more ↦ before_ascending low _ (s.tokens_in false (parts_of more (braces_after at kind braces) (at + width c) cs)) le (ascending_after (suc at) more (braces_after at kind braces) (at + width c) cs false (omega (arith, wide c)))
+      | Wrong fault ↦ tt
+    ]
+
+ascending_at : (bytes : List ℕ) (o : Option ℕ) → Ascending 0 (elim o [ Some at ↦ Err (NotUtf8 at) | None ↦ s.tokens_in false (parts_of 0 [] 0 (s.characters_of bytes)) ])
+ascending_at bytes (Some at) = tt
+ascending_at bytes None = ascending_after 0 0 [] 0 (s.characters_of bytes) false (omega arith)
+
+-- the places of a text's tokens ascend strictly
+pub places_ascend : (bytes : List ℕ) (tokens : List Token) → s.tokens_of bytes ≡ Ok tokens → AscendFrom 0 tokens
+unfolding s.tokens_of
+places_ascend bytes tokens e = subst (Ascending 0) e (ascending_at bytes (s.first_bad 0 (parts sequence_length bytes)))

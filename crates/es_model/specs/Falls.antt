@@ -1,5 +1,5 @@
 -- Each child of an expression or a statement is smaller than it, by `tree_size`.
-use Rattle.std.specs.Prelude.{ℕ, ◌+◌, ◌≤◌, Bool, List, [], ◌∷◌, map, Option, Some, None, Vec, Box}
+use Rattle.std.specs.Prelude.{ℕ, ◌+◌, ◌≤◌, Bool, List, [], ◌∷◌, map, Option, Some, None, Box}
 use Rattle.std.specs.declared.alloc.Global.{Global}
 use Rattle.std.proofs.Common.{arith}
 use denote.Param.Weighed.{most}
@@ -35,7 +35,7 @@ key_falls (k.Number a) = omega arith
 key_falls (k.Computed a) = omega arith
 
 body_falls : (a : FunctionBody) → deep-FunctionBody a ≤ tree_size (body_of a)
-body_falls (b.Statements a) = omega (arith, most_listed a.items)
+body_falls (b.Statements a) = omega (arith, most_listed a)
 body_falls (b.Expression a) = omega arith
 
 function_falls : (a : Function) → deep-Function a ≤ tree_size (function_of a)
@@ -51,9 +51,9 @@ members_fall : (l : List Member) → most (λ a. deep-Member a) l ≤ tree_size 
 members_fall [] = omega arith
 members_fall (a ∷ l) = omega (arith, members_fall l, member_parts a.at a.fixed a.kind a.key a.value a.function)
 
-class_parts : (at : ℕ) (name : Option Identifier) (parent : Option (Box (Tree t.expression) Global)) (members : Vec Member Global) → deep-Class (record { at = at; name = name; parent = parent; members = members }) ≤ tree_size (class_of (record { at = at; name = name; parent = parent; members = members }))
-class_parts at name None members = omega (arith, members_fall members.items)
-class_parts at name (Some a) members = omega (arith, members_fall members.items)
+class_parts : (at : ℕ) (name : Option Identifier) (parent : Option (Box (Tree t.expression) Global)) (members : List Member) → deep-Class (record { at = at; name = name; parent = parent; members = members }) ≤ tree_size (class_of (record { at = at; name = name; parent = parent; members = members }))
+class_parts at name None members = omega (arith, members_fall members)
+class_parts at name (Some a) members = omega (arith, members_fall members)
 
 declarator_parts : (name : Identifier) (value : Option (Box (Tree t.expression) Global)) → deep-Declarator (record { name = name; value = value }) ≤ tree_size (declarator_of (record { name = name; value = value }))
 declarator_parts name None = omega arith
@@ -63,9 +63,9 @@ declarators_fall : (l : List Declarator) → most (λ a. deep-Declarator a) l �
 declarators_fall [] = omega arith
 declarators_fall (a ∷ l) = omega (arith, declarators_fall l, declarator_parts a.name a.value)
 
-case_parts : (test : Option (Box (Tree t.expression) Global)) (body : Vec (Tree t.statement) Global) → deep-Case (record { test = test; body = body }) ≤ tree_size (case_of (record { test = test; body = body }))
-case_parts None body = omega (arith, most_listed body.items)
-case_parts (Some a) body = omega (arith, most_listed body.items)
+case_parts : (test : Option (Box (Tree t.expression) Global)) (body : List (Tree t.statement)) → deep-Case (record { test = test; body = body }) ≤ tree_size (case_of (record { test = test; body = body }))
+case_parts None body = omega (arith, most_listed body)
+case_parts (Some a) body = omega (arith, most_listed body)
 
 cases_fall : (l : List Case) → most (λ a. deep-Case a) l ≤ tree_size (listed (map case_of l))
 cases_fall [] = omega arith
@@ -74,25 +74,25 @@ cases_fall (a ∷ l) = omega (arith, cases_fall l, case_parts a.test a.body)
 head_falls : (a : Head) → deep-Head a ≤ tree_size (head_of a)
 head_falls h.Nothing = omega arith
 head_falls (h.Value a) = omega arith
-head_falls (h.Declare c a) = omega (arith, declarators_fall a.items)
+head_falls (h.Declare c a) = omega (arith, declarators_fall a)
 
 pub expression_falls : (f : ExpressionForm) → deep-ExpressionForm f ≤ tree_size (expression_of f)
-expression_falls (e.Template a l) = omega (arith, most_listed l.items)
-expression_falls (e.Array l) = omega (arith, most_listed l.items)
-expression_falls (e.Object a) = omega (arith, members_fall a.items)
+expression_falls (e.Template a l) = omega (arith, most_listed l)
+expression_falls (e.Array l) = omega (arith, most_listed l)
+expression_falls (e.Object a) = omega (arith, members_fall a)
 expression_falls (e.Function a) = omega (arith, function_falls a.value)
 expression_falls (e.Class a) = omega (arith, class_parts a.value.at a.value.name a.value.parent a.value.members)
-expression_falls (e.Call a l) = omega (arith, most_listed l.items)
+expression_falls (e.Call a l) = omega (arith, most_listed l)
 expression_falls (e.New a None) = omega arith
-expression_falls (e.New a (Some l)) = omega (arith, most_listed l.items)
-expression_falls (e.SuperCall a l) = omega (arith, most_listed l.items)
+expression_falls (e.New a (Some l)) = omega (arith, most_listed l)
+expression_falls (e.SuperCall a l) = omega (arith, most_listed l)
 expression_falls _ = omega arith
 
 pub statement_falls : (f : StatementForm) → deep-StatementForm f ≤ tree_size (statement_of f)
-statement_falls (s.Declare c l x) = omega (arith, declarators_fall l.items)
+statement_falls (s.Declare c l x) = omega (arith, declarators_fall l)
 statement_falls (s.Function a) = omega (arith, function_falls a.value)
 statement_falls (s.Class a) = omega (arith, class_parts a.value.at a.value.name a.value.parent a.value.members)
-statement_falls (s.Block l) = omega (arith, most_listed l.items)
+statement_falls (s.Block l) = omega (arith, most_listed l)
 statement_falls (s.If a x None) = omega arith
 statement_falls (s.If a x (Some y)) = omega arith
 statement_falls (s.For a None None x) = omega (arith, head_falls a.value)
@@ -101,9 +101,9 @@ statement_falls (s.For a (Some c) None x) = omega (arith, head_falls a.value)
 statement_falls (s.For a (Some c) (Some d) x) = omega (arith, head_falls a.value)
 statement_falls (s.Return a None x) = omega arith
 statement_falls (s.Return a (Some b) x) = omega arith
-statement_falls (s.Try l n None None) = omega (arith, most_listed l.items)
-statement_falls (s.Try l n None (Some c)) = omega (arith, most_listed l.items, most_listed c.items)
-statement_falls (s.Try l n (Some c) None) = omega (arith, most_listed l.items, most_listed c.items)
-statement_falls (s.Try l n (Some c) (Some d)) = omega (arith, most_listed l.items, most_listed c.items, most_listed d.items)
-statement_falls (s.Switch a l) = omega (arith, cases_fall l.items)
+statement_falls (s.Try l n None None) = omega (arith, most_listed l)
+statement_falls (s.Try l n None (Some c)) = omega (arith, most_listed l, most_listed c)
+statement_falls (s.Try l n (Some c) None) = omega (arith, most_listed l, most_listed c)
+statement_falls (s.Try l n (Some c) (Some d)) = omega (arith, most_listed l, most_listed c, most_listed d)
+statement_falls (s.Switch a l) = omega (arith, cases_fall l)
 statement_falls _ = omega arith

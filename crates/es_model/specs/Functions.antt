@@ -31,7 +31,7 @@ writes_constructor t.none = false
 writes_constructor (t.more a b) = is_constructor a || writes_constructor b
 
 -- what a class adds to the functions: its generated constructor, where it writes none
-abbrev generated : Bool → Tree t.class → List FunctionForm
+abbrev pub generated : Bool → Tree t.class → List FunctionForm
 generated true c = []
 generated false c = Generated c ∷ []
 

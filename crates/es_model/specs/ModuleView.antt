@@ -14,9 +14,9 @@ default_of (d.Class a0) = t.DefaultClass (class_of a0)
 default_of (d.Value a0) = t.DefaultValue a0
 
 abbrev pub item_of : Item → Tree t.item
-item_of (i.Import a0 a1 a2) = t.Import a0 a1.items a2
-item_of (i.ExportFrom a0 a1 a2) = t.ExportFrom a0 a1.items a2
-item_of (i.ExportNames a0 a1) = t.ExportNames a0.items a1
+item_of (i.Import a0 a1 a2) = t.Import a0 a1 a2
+item_of (i.ExportFrom a0 a1 a2) = t.ExportFrom a0 a1 a2
+item_of (i.ExportNames a0 a1) = t.ExportNames a0 a1
 item_of (i.ExportDeclaration a0) = t.ExportDeclaration a0
 item_of (i.ExportDefault a0 a1 a2) = t.ExportDefault a0 (default_of a1) a2
 item_of (i.Plain a0) = t.Plain a0

@@ -1,5 +1,5 @@
 -- How deep a tree is nested, in statements, expressions, functions and classes.
-use Rattle.std.specs.Prelude.{ℕ, suc, max}
+use Rattle.std.specs.Prelude.{ℕ, suc, max, Bool, true, false}
 use Rattle.es_model.specs.Tree as t
 use Rattle.es_model.specs.Tree.{Tree}
 
@@ -38,14 +38,14 @@ nesting (t.InstanceOf a0 a1) = suc (max (nesting a0) (nesting a1))
 nesting (t.And a0 a1) = suc (max (nesting a0) (nesting a1))
 nesting (t.Or a0 a1) = suc (max (nesting a0) (nesting a1))
 nesting (t.Nullish a0 a1) = suc (max (nesting a0) (nesting a1))
-nesting (t.Conditional a0 a1 a2) = suc (max (max (nesting a0) (nesting a1)) (nesting a2))
+nesting (t.Conditional a0 a1 a2) = suc (max (nesting a0) (max (nesting a1) (nesting a2)))
 nesting (t.Assign _ a1 _ a3) = suc (max (nesting a1) (nesting a3))
 nesting (t.Comma a0 a1) = suc (max (nesting a0) (nesting a1))
 nesting (t.KeyWord _) = 0
 nesting (t.KeyString _) = 0
 nesting (t.KeyNumber _) = 0
 nesting (t.KeyComputed a0) = nesting a0
-nesting (t.MemberOf _ _ _ a3 a4 a5) = max (max (nesting a3) (nesting a4)) (nesting a5)
+nesting (t.MemberOf _ _ _ a3 a4 a5) = max (nesting a3) (max (nesting a4) (nesting a5))
 nesting (t.FunctionOf _ _ _ _ a4) = suc (nesting a4)
 nesting (t.BodyStatements a0) = nesting a0
 nesting (t.BodyExpression a0) = nesting a0
@@ -61,15 +61,15 @@ nesting (t.Declare _ a1 _) = suc (nesting a1)
 nesting (t.FunctionStatement a0) = suc (nesting a0)
 nesting (t.ClassStatement a0) = suc (nesting a0)
 nesting (t.Block a0) = suc (nesting a0)
-nesting (t.If a0 a1 a2) = suc (max (max (nesting a0) (nesting a1)) (nesting a2))
-nesting (t.For a0 a1 a2 a3) = suc (max (max (max (nesting a0) (nesting a1)) (nesting a2)) (nesting a3))
+nesting (t.If a0 a1 a2) = suc (max (nesting a0) (max (nesting a1) (nesting a2)))
+nesting (t.For a0 a1 a2 a3) = suc (max (nesting a0) (max (nesting a1) (max (nesting a2) (nesting a3))))
 nesting (t.While a0 a1) = suc (max (nesting a0) (nesting a1))
 nesting (t.DoWhile a0 a1 _) = suc (max (nesting a0) (nesting a1))
 nesting (t.Break _ _) = 1
 nesting (t.Continue _ _) = 1
 nesting (t.Return _ a1 _) = suc (nesting a1)
 nesting (t.Throw a0 _) = suc (nesting a0)
-nesting (t.Try a0 _ a2 a3) = suc (max (max (nesting a0) (nesting a2)) (nesting a3))
+nesting (t.Try a0 _ a2 a3) = suc (max (nesting a0) (max (nesting a2) (nesting a3)))
 nesting (t.Switch a0 a1) = suc (max (nesting a0) (nesting a1))
 nesting (t.DefaultFunction a0) = nesting a0
 nesting (t.DefaultClass a0) = nesting a0
@@ -84,3 +84,26 @@ nesting t.none = 0
 nesting (t.more a0 a1) = max (nesting a0) (nesting a1)
 nesting t.absent = 0
 nesting (t.present a0) = nesting a0
+
+-- an expression that has a list, a function or a class in it, or three expressions
+abbrev pub is_compound : Tree t.expression → Bool
+is_compound (t.Template _ _) = true
+is_compound (t.Array _) = true
+is_compound (t.Object _) = true
+is_compound (t.Function _) = true
+is_compound (t.Class _) = true
+is_compound (t.Call _ _) = true
+is_compound (t.New _ _) = true
+is_compound (t.SuperCall _ _) = true
+is_compound (t.Conditional _ _ _) = true
+is_compound _ = false
+
+-- a loop, or a statement that has nothing in it
+abbrev pub is_loop_or_bare : Tree t.statement → Bool
+is_loop_or_bare (t.For _ _ _ _) = true
+is_loop_or_bare (t.While _ _) = true
+is_loop_or_bare (t.DoWhile _ _ _) = true
+is_loop_or_bare t.Empty = true
+is_loop_or_bare (t.Break _ _) = true
+is_loop_or_bare (t.Continue _ _) = true
+is_loop_or_bare _ = false

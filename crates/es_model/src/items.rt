@@ -1,4 +1,5 @@
 use crate::kinds::Semi;
+use crate::list::TreeList;
 use crate::names::Pair;
 use crate::tree::{Class, Expression, Function, Statement};
 use js_value::Units;
@@ -18,18 +19,18 @@ pub enum Item {
     /// Any `import`: its pairs are (name there, name bound here).
     Import {
         from: Units,
-        names: Vec<Pair>,
+        names: TreeList<Pair>,
         semi: Semi,
     },
     /// `export {a as b} from "m"`: its pairs are (name there, name exported).
     ExportFrom {
         from: Units,
-        names: Vec<Pair>,
+        names: TreeList<Pair>,
         semi: Semi,
     },
     /// `export {a as b}`: its pairs are (name bound here, name exported).
     ExportNames {
-        names: Vec<Pair>,
+        names: TreeList<Pair>,
         semi: Semi,
     },
     ExportDeclaration {
@@ -50,7 +51,7 @@ pub enum Item {
 /// A module: the list of its items. Contracts see it as one tree.
 #[derive(Drop)]
 pub struct Module {
-    pub items: Vec<Item>,
+    pub items: TreeList<Item>,
 }
 
 impl Model for Module {
@@ -64,5 +65,5 @@ impl Model for Module {
 
     ghost use Rattle.es_model.specs.ModuleView.{item_of};
 
-    ghost view = { λ m. listed (map item_of m.items.items) };
+    ghost view = { λ m. listed (map item_of m.items) };
 }

@@ -4,6 +4,7 @@
 mod faults;
 mod items;
 mod kinds;
+mod list;
 mod measure;
 mod names;
 mod place;
@@ -14,6 +15,7 @@ mod words;
 pub use faults::{EarlyFault, LexFault};
 pub use items::{Default, Item, Module};
 pub use kinds::{BinaryOperator, FunctionKind, MemberKind, Semi, UnaryOperator};
+pub use list::TreeList;
 pub use measure::{function_count, nesting};
 pub use names::{Identifier, Pair};
 pub use place::{Capture, Place};
@@ -23,3 +25,6 @@ pub use tree::{
     Statement, StatementForm,
 };
 pub use words::{keyword, keyword_text, sign, sign_text};
+
+#[cfg(test)]
+mod tests;

@@ -1,13 +1,23 @@
-#![tactic(auto, using(crate::proofs::Counts::functions_two, crate::proofs::Counts::functions_none, crate::proofs::Counts::functions_member, crate::proofs::Counts::writes_constructor_listed), unfolding(crate::specs::Nesting::nesting, crate::specs::Functions::functions))]
+#![tactic(auto, using(crate::proofs::Counts::writes_constructor_listed), unfolding(crate::specs::Counted::counted))]
 
-ghost use Rattle.std.specs.Prelude.{◌≡◌, suc, ◌+◌, max, min, length, map};
+ghost use Rattle.std.specs.Prelude.{◌≡◌, true, false, min, map};
 ghost use Rattle.std.specs.List.{list_any};
 ghost use Rattle.es_model.specs.Tree.{listed};
-ghost use Rattle.es_model.specs.Nesting.{nesting};
-ghost use Rattle.es_model.specs.Functions.{functions, function_count, is_constructor};
+ghost use Rattle.es_model.specs.Nesting.{nesting, is_compound, is_loop_or_bare};
+ghost use Rattle.es_model.specs.Functions.{function_count, is_constructor};
+ghost use Rattle.es_model.specs.Counted.{
+  nothing_counted,
+  beside,
+  inside,
+  and_function,
+  counted,
+};
 ghost use Rattle.es_model.specs.View.{
+  expression_of,
+  statement_of,
   optional,
   optional_list,
+  optional_function,
   function_of,
   class_of,
   member_of,
@@ -20,6 +30,7 @@ ghost use Rattle.es_model.specs.ModuleView.{item_of};
 
 use crate::items::{Default, Item, Module};
 use crate::kinds::FunctionKind;
+use crate::list::TreeList;
 use crate::tree::{
     Case, Class, Declarator, Expression, ExpressionForm, Function, FunctionBody, Head, Key, Member,
     Statement, StatementForm,
@@ -36,8 +47,7 @@ struct Counts {
 impl Counts {
     /// Those of a tree with nothing in it.
     fn none() -> Counts
-        ensures nesting { result.nesting ≡ 0 }
-        ensures functions { result.functions ≡ 0 }
+        ensures { result ≡ nothing_counted }
     {
         Counts {
             nesting: 0,
@@ -46,9 +56,9 @@ impl Counts {
     }
 
     /// Those of two trees that stand side by side.
+    #[tactic(auto, unfolding(crate::specs::Counted::beside))]
     fn beside(self, other: Counts) -> Counts
-        ensures nesting { result.nesting ≡ max self.nesting other.nesting }
-        ensures functions { result.functions ≡ min (self.functions + other.functions) u32.MAX }
+        ensures { result ≡ beside self other }
     {
         Counts {
             nesting: self.nesting.max(other.nesting),
@@ -57,9 +67,9 @@ impl Counts {
     }
 
     /// Those of a statement, expression, function or class round what was counted.
+    #[tactic(auto, unfolding(crate::specs::Counted::inside))]
     fn inside(self) -> Counts
-        ensures nesting { result.nesting ≡ min (suc self.nesting) u32.MAX }
-        ensures functions { result.functions ≡ self.functions }
+        ensures { result ≡ inside self }
     {
         Counts {
             nesting: self.nesting.saturating_add(1),
@@ -68,9 +78,9 @@ impl Counts {
     }
 
     /// With one function more.
+    #[tactic(auto, unfolding(crate::specs::Counted::and_function))]
     fn and_function(self) -> Counts
-        ensures nesting { result.nesting ≡ self.nesting }
-        ensures functions { result.functions ≡ min (suc self.functions) u32.MAX }
+        ensures { result ≡ and_function self }
     {
         Counts {
             nesting: self.nesting,
@@ -83,6 +93,7 @@ impl Counts {
 /// each other (own rule), or 4294967295 where it is longer. A function or class counts beside the
 /// expression or statement that it is, and once where it is a default export. Takes no memory;
 /// recurses on the tree.
+#[tactic(auto, using(crate::proofs::Counts::counted_nesting))]
 pub fn nesting(module: &Module) -> u32
     ensures { result ≡ min (nesting «module».now) u32.MAX }
 {
@@ -92,6 +103,7 @@ pub fn nesting(module: &Module) -> u32
 /// The number of the module's functions, or 4294967295 where there are more: its body, each
 /// function of the text, and a constructor for each class that writes none (own rule). Takes no
 /// memory; recurses on the tree.
+#[tactic(auto, using(crate::proofs::Counts::counted_functions))]
 pub fn function_count(module: &Module) -> u32
     ensures { result ≡ min (function_count «module».now) u32.MAX }
 {
@@ -99,8 +111,7 @@ pub fn function_count(module: &Module) -> u32
 }
 
 fn of_items(items: &[Item]) -> Counts
-    ensures nesting { result.nesting ≡ min (nesting (listed (map item_of items.now))) u32.MAX }
-    ensures functions { result.functions ≡ min (length (functions (listed (map item_of items.now)))) u32.MAX }
+    ensures { result ≡ counted (listed (map item_of items.now)) }
 {
     let mut counts = Counts::none();
     for item in items {
@@ -110,8 +121,7 @@ fn of_items(items: &[Item]) -> Counts
 }
 
 fn of_item(item: &Item) -> Counts
-    ensures nesting { result.nesting ≡ min (nesting (item_of item.now)) u32.MAX }
-    ensures functions { result.functions ≡ min (length (functions (item_of item.now))) u32.MAX }
+    ensures { result ≡ counted (item_of item.now) }
 {
     match item {
         Item::Import { .. } | Item::ExportFrom { .. } | Item::ExportNames { .. } => Counts::none(),
@@ -128,19 +138,37 @@ fn of_item(item: &Item) -> Counts
 
 #[cycle(counts)]
 fn of_expression(expression: &Expression) -> Counts
-    ensures nesting { result.nesting ≡ min (nesting expression.now) u32.MAX }
-    ensures functions { result.functions ≡ min (length (functions expression.now)) u32.MAX }
+    ensures { result ≡ counted expression.now }
 {
     match &expression.form {
         ExpressionForm::Template { values, .. } => of_expressions(values.as_slice()).inside(),
-        ExpressionForm::Array(values)
-        | ExpressionForm::SuperCall {
-            arguments: values,
-            ..
-        } => of_expressions(values.as_slice()).inside(),
+        ExpressionForm::Array(values) => of_expressions(values.as_slice()).inside(),
+        ExpressionForm::SuperCall { arguments, .. } => {
+            of_expressions(arguments.as_slice()).inside()
+        }
         ExpressionForm::Object(members) => of_members(members.as_slice()).inside(),
         ExpressionForm::Function(function) => of_function(function).inside(),
         ExpressionForm::Class(class) => of_class(class).inside(),
+        ExpressionForm::Call { callee, arguments } => of_expression(callee)
+            .beside(of_expressions(arguments.as_slice()))
+            .inside(),
+        ExpressionForm::New { callee, arguments } => of_expression(callee)
+            .beside(of_arguments(arguments))
+            .inside(),
+        ExpressionForm::Conditional { test, yes, no } => of_expression(test)
+            .beside(of_expression(yes).beside(of_expression(no)))
+            .inside(),
+        form => of_operation(form),
+    }
+}
+
+/// Those of an expression that has one operand, or two, or nothing in it.
+#[cycle(counts)]
+fn of_operation(form: &ExpressionForm) -> Counts
+    requires { is_compound (expression_of form.now) ≡ false }
+    ensures { result ≡ counted (expression_of form.now) }
+{
+    match form {
         ExpressionForm::Paren(of)
         | ExpressionForm::Dot { of, .. }
         | ExpressionForm::SuperIndex { key: of, .. }
@@ -149,42 +177,26 @@ fn of_expression(expression: &Expression) -> Counts
         | ExpressionForm::Typeof(of)
         | ExpressionForm::Void(of)
         | ExpressionForm::Delete { of, .. } => of_expression(of).inside(),
-        ExpressionForm::Call { callee, arguments } => of_expression(callee)
-            .beside(of_expressions(arguments.as_slice()))
-            .inside(),
-        ExpressionForm::New { callee, arguments } => of_expression(callee)
-            .beside(of_arguments(arguments))
-            .inside(),
-        ExpressionForm::Index {
-            of: left,
-            key: right,
+        ExpressionForm::Index { of, key } => of_expression(of).beside(of_expression(key)).inside(),
+        ExpressionForm::Assign { target, value, .. } => {
+            of_expression(target).beside(of_expression(value)).inside()
         }
-        | ExpressionForm::Binary { left, right, .. }
+        ExpressionForm::Binary { left, right, .. }
         | ExpressionForm::In { left, right }
         | ExpressionForm::InstanceOf { left, right }
         | ExpressionForm::And { left, right }
         | ExpressionForm::Or { left, right }
         | ExpressionForm::Nullish { left, right }
-        | ExpressionForm::Assign {
-            target: left,
-            value: right,
-            ..
-        }
         | ExpressionForm::Comma { left, right } => {
             of_expression(left).beside(of_expression(right)).inside()
         }
-        ExpressionForm::Conditional { test, yes, no } => of_expression(test)
-            .beside(of_expression(yes))
-            .beside(of_expression(no))
-            .inside(),
         _ => Counts::none().inside(),
     }
 }
 
 #[cycle(counts)]
 fn of_expressions(expressions: &[Expression]) -> Counts
-    ensures nesting { result.nesting ≡ min (nesting (listed expressions.now)) u32.MAX }
-    ensures functions { result.functions ≡ min (length (functions (listed expressions.now))) u32.MAX }
+    ensures { result ≡ counted (listed expressions.now) }
 {
     let mut counts = Counts::none();
     for expression in expressions {
@@ -194,9 +206,8 @@ fn of_expressions(expressions: &[Expression]) -> Counts
 }
 
 #[cycle(counts)]
-fn of_arguments(arguments: &Option<Vec<Expression>>) -> Counts
-    ensures nesting { result.nesting ≡ min (nesting (optional_list arguments.now)) u32.MAX }
-    ensures functions { result.functions ≡ min (length (functions (optional_list arguments.now))) u32.MAX }
+fn of_arguments(arguments: &Option<TreeList<Expression>>) -> Counts
+    ensures { result ≡ counted (optional_list arguments.now) }
 {
     match arguments {
         Some(values) => of_expressions(values.as_slice()),
@@ -206,8 +217,7 @@ fn of_arguments(arguments: &Option<Vec<Expression>>) -> Counts
 
 #[cycle(counts)]
 fn of_optional(expression: &Option<Box<Expression>>) -> Counts
-    ensures nesting { result.nesting ≡ min (nesting (optional expression.now)) u32.MAX }
-    ensures functions { result.functions ≡ min (length (functions (optional expression.now))) u32.MAX }
+    ensures { result ≡ counted (optional expression.now) }
 {
     match expression {
         Some(value) => of_expression(value),
@@ -217,33 +227,48 @@ fn of_optional(expression: &Option<Box<Expression>>) -> Counts
 
 #[cycle(counts)]
 fn of_statement(statement: &Statement) -> Counts
-    ensures nesting { result.nesting ≡ min (nesting statement.now) u32.MAX }
-    ensures functions { result.functions ≡ min (length (functions statement.now)) u32.MAX }
+    ensures { result ≡ counted statement.now }
 {
     match &statement.form {
-        StatementForm::Empty | StatementForm::Break { .. } | StatementForm::Continue { .. } => {
-            Counts::none().inside()
-        }
-        StatementForm::Value { value, .. } | StatementForm::Throw { value, .. } => {
-            of_expression(value).inside()
-        }
+        StatementForm::Value { value, .. } => of_expression(value).inside(),
+        StatementForm::Throw { value, .. } => of_expression(value).inside(),
         StatementForm::Declare { names, .. } => of_declarators(names.as_slice()).inside(),
         StatementForm::Function(function) => of_function(function).inside(),
         StatementForm::Class(class) => of_class(class).inside(),
         StatementForm::Block(statements) => of_statements(statements.as_slice()).inside(),
+        StatementForm::Return { value, .. } => of_optional(value).inside(),
         StatementForm::If { test, yes, other } => of_expression(test)
-            .beside(of_statement(yes))
-            .beside(of_other(other))
+            .beside(of_statement(yes).beside(of_other(other)))
             .inside(),
+        StatementForm::Try {
+            block,
+            catch,
+            finally,
+            ..
+        } => of_statements(block.as_slice())
+            .beside(of_block(catch).beside(of_block(finally)))
+            .inside(),
+        StatementForm::Switch { value, cases } => of_expression(value)
+            .beside(of_cases(cases.as_slice()))
+            .inside(),
+        form => of_loop(form),
+    }
+}
+
+/// Those of a loop, or of a statement with nothing in it.
+#[cycle(counts)]
+fn of_loop(form: &StatementForm) -> Counts
+    requires { is_loop_or_bare (statement_of form.now) ≡ true }
+    ensures { result ≡ counted (statement_of form.now) }
+{
+    match form {
         StatementForm::For {
             head,
             test,
             step,
             body,
         } => of_head(head)
-            .beside(of_optional(test))
-            .beside(of_optional(step))
-            .beside(of_statement(body))
+            .beside(of_optional(test).beside(of_optional(step).beside(of_statement(body))))
             .inside(),
         StatementForm::While { test, body } => {
             of_expression(test).beside(of_statement(body)).inside()
@@ -251,26 +276,13 @@ fn of_statement(statement: &Statement) -> Counts
         StatementForm::DoWhile { body, test, .. } => {
             of_statement(body).beside(of_expression(test)).inside()
         }
-        StatementForm::Return { value, .. } => of_optional(value).inside(),
-        StatementForm::Try {
-            block,
-            catch,
-            finally,
-            ..
-        } => of_statements(block.as_slice())
-            .beside(of_block(catch))
-            .beside(of_block(finally))
-            .inside(),
-        StatementForm::Switch { value, cases } => of_expression(value)
-            .beside(of_cases(cases.as_slice()))
-            .inside(),
+        _ => Counts::none().inside(),
     }
 }
 
 #[cycle(counts)]
 fn of_other(other: &Option<Box<Statement>>) -> Counts
-    ensures nesting { result.nesting ≡ min (nesting (optional other.now)) u32.MAX }
-    ensures functions { result.functions ≡ min (length (functions (optional other.now))) u32.MAX }
+    ensures { result ≡ counted (optional other.now) }
 {
     match other {
         Some(statement) => of_statement(statement),
@@ -280,8 +292,7 @@ fn of_other(other: &Option<Box<Statement>>) -> Counts
 
 #[cycle(counts)]
 fn of_statements(statements: &[Statement]) -> Counts
-    ensures nesting { result.nesting ≡ min (nesting (listed statements.now)) u32.MAX }
-    ensures functions { result.functions ≡ min (length (functions (listed statements.now))) u32.MAX }
+    ensures { result ≡ counted (listed statements.now) }
 {
     let mut counts = Counts::none();
     for statement in statements {
@@ -291,9 +302,8 @@ fn of_statements(statements: &[Statement]) -> Counts
 }
 
 #[cycle(counts)]
-fn of_block(block: &Option<Vec<Statement>>) -> Counts
-    ensures nesting { result.nesting ≡ min (nesting (optional_list block.now)) u32.MAX }
-    ensures functions { result.functions ≡ min (length (functions (optional_list block.now))) u32.MAX }
+fn of_block(block: &Option<TreeList<Statement>>) -> Counts
+    ensures { result ≡ counted (optional_list block.now) }
 {
     match block {
         Some(statements) => of_statements(statements.as_slice()),
@@ -303,8 +313,7 @@ fn of_block(block: &Option<Vec<Statement>>) -> Counts
 
 #[cycle(counts)]
 fn of_function(function: &Function) -> Counts
-    ensures nesting { result.nesting ≡ min (nesting (function_of function.now)) u32.MAX }
-    ensures functions { result.functions ≡ min (length (functions (function_of function.now))) u32.MAX }
+    ensures { result ≡ counted (function_of function.now) }
 {
     match &function.body {
         FunctionBody::Statements(statements) => of_statements(statements.as_slice())
@@ -316,8 +325,7 @@ fn of_function(function: &Function) -> Counts
 
 #[cycle(counts)]
 fn of_class(class: &Class) -> Counts
-    ensures nesting { result.nesting ≡ min (nesting (class_of class.now)) u32.MAX }
-    ensures functions { result.functions ≡ min (length (functions (class_of class.now))) u32.MAX }
+    ensures { result ≡ counted (class_of class.now) }
 {
     let inner = of_optional(&class.parent)
         .beside(of_members(class.members.as_slice()))
@@ -346,8 +354,7 @@ fn is_constructor(member: &Member) -> bool
 
 #[cycle(counts)]
 fn of_members(members: &[Member]) -> Counts
-    ensures nesting { result.nesting ≡ min (nesting (listed (map member_of members.now))) u32.MAX }
-    ensures functions { result.functions ≡ min (length (functions (listed (map member_of members.now)))) u32.MAX }
+    ensures { result ≡ counted (listed (map member_of members.now)) }
 {
     let mut counts = Counts::none();
     for member in members {
@@ -358,20 +365,26 @@ fn of_members(members: &[Member]) -> Counts
 
 #[cycle(counts)]
 fn of_member(member: &Member) -> Counts
-    ensures nesting { result.nesting ≡ min (nesting (member_of member.now)) u32.MAX }
-    ensures functions { result.functions ≡ min (length (functions (member_of member.now))) u32.MAX }
+    ensures { result ≡ counted (member_of member.now) }
 {
-    let inner = of_key(&member.key).beside(of_optional(&member.value));
-    match &member.function {
-        Some(function) => inner.beside(of_function(function)),
-        None => inner,
+    let value = of_optional(&member.value);
+    let function = of_optional_function(&member.function);
+    of_key(&member.key).beside(value.beside(function))
+}
+
+#[cycle(counts)]
+fn of_optional_function(function: &Option<Box<Function>>) -> Counts
+    ensures { result ≡ counted (optional_function function.now) }
+{
+    match function {
+        Some(function) => of_function(function),
+        None => Counts::none(),
     }
 }
 
 #[cycle(counts)]
 fn of_key(key: &Key) -> Counts
-    ensures nesting { result.nesting ≡ min (nesting (key_of key.now)) u32.MAX }
-    ensures functions { result.functions ≡ min (length (functions (key_of key.now))) u32.MAX }
+    ensures { result ≡ counted (key_of key.now) }
 {
     match key {
         Key::Computed(value) => of_expression(value),
@@ -381,8 +394,7 @@ fn of_key(key: &Key) -> Counts
 
 #[cycle(counts)]
 fn of_head(head: &Head) -> Counts
-    ensures nesting { result.nesting ≡ min (nesting (head_of head.now)) u32.MAX }
-    ensures functions { result.functions ≡ min (length (functions (head_of head.now))) u32.MAX }
+    ensures { result ≡ counted (head_of head.now) }
 {
     match head {
         Head::Nothing => Counts::none(),
@@ -393,8 +405,7 @@ fn of_head(head: &Head) -> Counts
 
 #[cycle(counts)]
 fn of_declarators(names: &[Declarator]) -> Counts
-    ensures nesting { result.nesting ≡ min (nesting (listed (map declarator_of names.now))) u32.MAX }
-    ensures functions { result.functions ≡ min (length (functions (listed (map declarator_of names.now)))) u32.MAX }
+    ensures { result ≡ counted (listed (map declarator_of names.now)) }
 {
     let mut counts = Counts::none();
     for name in names {
@@ -405,16 +416,14 @@ fn of_declarators(names: &[Declarator]) -> Counts
 
 #[cycle(counts)]
 fn of_declarator(name: &Declarator) -> Counts
-    ensures nesting { result.nesting ≡ min (nesting (declarator_of name.now)) u32.MAX }
-    ensures functions { result.functions ≡ min (length (functions (declarator_of name.now))) u32.MAX }
+    ensures { result ≡ counted (declarator_of name.now) }
 {
     of_optional(&name.value)
 }
 
 #[cycle(counts)]
 fn of_cases(cases: &[Case]) -> Counts
-    ensures nesting { result.nesting ≡ min (nesting (listed (map case_of cases.now))) u32.MAX }
-    ensures functions { result.functions ≡ min (length (functions (listed (map case_of cases.now)))) u32.MAX }
+    ensures { result ≡ counted (listed (map case_of cases.now)) }
 {
     let mut counts = Counts::none();
     for case in cases {
@@ -425,8 +434,7 @@ fn of_cases(cases: &[Case]) -> Counts
 
 #[cycle(counts)]
 fn of_case(case: &Case) -> Counts
-    ensures nesting { result.nesting ≡ min (nesting (case_of case.now)) u32.MAX }
-    ensures functions { result.functions ≡ min (length (functions (case_of case.now))) u32.MAX }
+    ensures { result ≡ counted (case_of case.now) }
 {
     of_optional(&case.test).beside(of_statements(case.body.as_slice()))
 }

@@ -1,4 +1,5 @@
 use crate::kinds::{BinaryOperator, FunctionKind, MemberKind, Semi, UnaryOperator};
+use crate::list::TreeList;
 use crate::names::Identifier;
 use js_value::Units;
 use std::marker::Model;
@@ -16,7 +17,7 @@ pub struct Declarator {
 #[derive(Drop)]
 pub struct Case {
     pub test: Option<Box<Expression>>,
-    pub body: Vec<Statement>,
+    pub body: TreeList<Statement>,
 }
 
 /// What stands first in the parentheses of a `for`.
@@ -27,7 +28,7 @@ pub enum Head {
     Value(Box<Expression>),
     Declare {
         constant: bool,
-        names: Vec<Declarator>,
+        names: TreeList<Declarator>,
     },
 }
 
@@ -35,7 +36,7 @@ pub enum Head {
 #[cycle(tree)]
 #[derive(Drop)]
 pub enum FunctionBody {
-    Statements(Vec<Statement>),
+    Statements(TreeList<Statement>),
     Expression(Box<Expression>),
 }
 
@@ -48,7 +49,7 @@ pub struct Function {
     pub at: u32,
     pub name: Option<Identifier>,
     pub kind: FunctionKind,
-    pub parameters: Vec<Identifier>,
+    pub parameters: TreeList<Identifier>,
     pub body: FunctionBody,
 }
 
@@ -59,7 +60,7 @@ pub struct Class {
     pub at: u32,
     pub name: Option<Identifier>,
     pub parent: Option<Box<Expression>>,
-    pub members: Vec<Member>,
+    pub members: TreeList<Member>,
 }
 
 /// The key of a member, as it is written.
@@ -124,12 +125,12 @@ pub enum StatementForm {
     },
     Declare {
         constant: bool,
-        names: Vec<Declarator>,
+        names: TreeList<Declarator>,
         semi: Semi,
     },
     Function(Box<Function>),
     Class(Box<Class>),
-    Block(Vec<Statement>),
+    Block(TreeList<Statement>),
     If {
         test: Box<Expression>,
         yes: Box<Statement>,
@@ -168,14 +169,14 @@ pub enum StatementForm {
         semi: Semi,
     },
     Try {
-        block: Vec<Statement>,
+        block: TreeList<Statement>,
         name: Option<Identifier>,
-        catch: Option<Vec<Statement>>,
-        finally: Option<Vec<Statement>>,
+        catch: Option<TreeList<Statement>>,
+        finally: Option<TreeList<Statement>>,
     },
     Switch {
         value: Box<Expression>,
-        cases: Vec<Case>,
+        cases: TreeList<Case>,
     },
 }
 
@@ -221,11 +222,11 @@ pub enum ExpressionForm {
     String(Units),
     /// One text more than values; the values stand between the texts.
     Template {
-        texts: Vec<Units>,
-        values: Vec<Expression>,
+        texts: TreeList<Units>,
+        values: TreeList<Expression>,
     },
-    Array(Vec<Expression>),
-    Object(Vec<Member>),
+    Array(TreeList<Expression>),
+    Object(TreeList<Member>),
     Function(Box<Function>),
     Class(Box<Class>),
     Paren(Box<Expression>),
@@ -247,15 +248,15 @@ pub enum ExpressionForm {
     },
     Call {
         callee: Box<Expression>,
-        arguments: Vec<Expression>,
+        arguments: TreeList<Expression>,
     },
     New {
         callee: Box<Expression>,
-        arguments: Option<Vec<Expression>>,
+        arguments: Option<TreeList<Expression>>,
     },
     SuperCall {
         at: u32,
-        arguments: Vec<Expression>,
+        arguments: TreeList<Expression>,
     },
     /// `++` where `up`, else `--`.
     Update {
