@@ -1,10 +1,11 @@
 //! A text in UTF-8, character by character.
 
-ghost use Rattle.std.specs.Prelude.{◌≡◌, ◌+◌, ◌<◌, ◌^◌, [], ◌∷◌, length, MatchOption};
+ghost use Rattle.std.specs.Prelude.{◌≡◌, ◌==◌, ◌+◌, ◌<◌, ◌^◌, [], ◌∷◌, length, MatchOption};
 ghost use Rattle.js_value.specs.Text.{parts, sequence_length};
-ghost use Rattle.es_model.specs.Tokens.{characters_of, first_bad, width};
+ghost use Rattle.es_model.specs.Tokens.{characters_of, first_bad, first_is, is_digit, width};
 ghost use Rattle.js_lexer.specs.Left.{IsUtf8, skip, first_of};
 
+use crate::classes::is_digit;
 use js_value::{scalar_value, sequence_length};
 use std::marker::Model;
 
@@ -74,6 +75,26 @@ impl<'a> Characters<'a> {
         match split_first(self.rest) {
             Some((first, _behind)) => Some(first),
             None => None,
+        }
+    }
+
+    /// Whether this character is next.
+    pub fn is_at(&self, c: char) -> bool
+        ensures { result ≡ first_is (λ d. d == c) self.now.text }
+    {
+        match self.first() {
+            Some(first) => first == c,
+            None => false,
+        }
+    }
+
+    /// Whether a decimal digit is next.
+    pub fn is_at_digit(&self) -> bool
+        ensures { result ≡ first_is is_digit self.now.text }
+    {
+        match self.first() {
+            Some(first) => is_digit(first),
+            None => false,
         }
     }
 
