@@ -114,6 +114,10 @@ string_left left (Err fault) = Err fault
 abbrev pub string : (quote begun : ℕ) → Left → Result (List ℕ × Left) LexFault
 string quote begun left = string_left left (s.string_from quote 0 begun left.at left.text)
 
+-- what is left after a line feed, where one is next
+abbrev pub fed : Left → Left
+fed left = skip (elim (s.first_is (λ d. d == 10) left.text) [ true ↦ 1 | false ↦ 0 ]) left
+
 -- a piece of a template whose backquote stands at `begun`: its units, whether it is the last, and what is left
 abbrev pub piece_left : Left → Result (List ℕ × Bool × ℕ) LexFault → Result ((List ℕ × Bool) × Left) LexFault
 piece_left left (Ok (units, last, count)) = Ok ((units, last), skip count left)

@@ -1,6 +1,7 @@
 //! Escapes of strings and templates (ECMA-262, 12.9.4 and 12.9.6).
 
-ghost use Rattle.std.specs.Prelude.{◌<◌, IfSome, option_map};
+ghost use Rattle.std.specs.Prelude.{◌≡◌, ◌<◌, IfSome, option_map};
+ghost use Rattle.es_model.specs.Tokens.{named_by};
 ghost use Rattle.js_lexer.specs.Reads.{Finds, escape, plain, unicode, code_point, hexadecimal, units_of};
 
 use crate::characters::Characters;
@@ -19,18 +20,35 @@ pub enum Escape {
 pub fn take_escape(left: &mut Characters) -> Option<Escape>
     ensures { Finds (escape left.old) (option_map units_of result) left.new }
 {
-    let code_point = match left.next()? {
-        'x' => two_digits(left)?,
-        'u' => unicode(left)?,
-        'b' => 8,
-        't' => 9,
-        'n' => 10,
-        'v' => 11,
-        'f' => 12,
-        'r' => 13,
-        c => return plain(c, left),
-    };
-    Some(Escape::CodePoint(code_point))
+    let c = left.next()?;
+    if c == 'x' {
+        let value = two_digits(left)?;
+        return Some(Escape::CodePoint(value));
+    }
+    if c == 'u' {
+        let value = unicode(left)?;
+        return Some(Escape::CodePoint(value));
+    }
+    match named_by(c) {
+        Some(code_point) => Some(Escape::CodePoint(code_point)),
+        None => plain(c, left),
+    }
+}
+
+/// The character that a letter after a backslash names.
+fn named_by(c: char) -> Option<u32>
+    ensures value { result ≡ named_by c }
+    ensures bound { IfSome result (λ named. named < 32) }
+{
+    match c {
+        'b' => Some(8),
+        't' => Some(9),
+        'n' => Some(10),
+        'v' => Some(11),
+        'f' => Some(12),
+        'r' => Some(13),
+        _ => None,
+    }
 }
 
 /// `\0`, a line continuation, or a character that stands for itself, after its first character.

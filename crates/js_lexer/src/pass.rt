@@ -32,10 +32,11 @@ pub fn tokens(alloc: Global, text: &[u8]) -> Result<Tokens, LexFault>
 }
 
 /// Adds all tokens of what is left of a text to an empty list.
-fn take_all(alloc: Global, mut left: Characters, tokens: &mut Tokens) -> Result<(), LexFault>
+fn take_all(alloc: Global, text: Characters, tokens: &mut Tokens) -> Result<(), LexFault>
     requires { tokens.old ≡ [] }
-    ensures { Lists (tokens_in false (parts_of 0 [] left.at left.text)) result tokens.new }
+    ensures { Lists (tokens_in false (parts_of 0 [] text.at text.text)) result tokens.new }
 {
+    let mut left = text;
     let mut braces = Braces::new(alloc);
     let mut line_before = false;
     loop {

@@ -1,7 +1,7 @@
 //! Strings and templates (ECMA-262, 12.9.4 and 12.9.6).
 
 ghost use Rattle.std.specs.Prelude.{◌≡◌};
-ghost use Rattle.js_lexer.specs.Reads.{Escapes, Reads, escape, piece, string};
+ghost use Rattle.js_lexer.specs.Reads.{Escapes, Reads, escape, fed, piece, string};
 
 use crate::characters::Characters;
 use crate::escapes::{Escape, take_escape};
@@ -50,21 +50,30 @@ pub fn take_piece(
         let Some(c) = left.next() else {
             return Err(LexFault::OpenTemplate(begun));
         };
+        if c == '`' {
+            return Ok((text, true));
+        }
+        if c == '$' && left.is_at('{') {
+            left.next();
+            return Ok((text, false));
+        }
         match c {
-            '`' => return Ok((text, true)),
-            '$' if left.is_at('{') => {
-                left.next();
-                return Ok((text, false));
-            }
             '\r' => {
-                if left.is_at('\n') {
-                    left.next();
-                }
+                take_feed(left);
                 push_character(&mut text, '\n')?;
             }
             '\\' => push_escape(&mut text, at, left)?,
             _ => push_character(&mut text, c)?,
         }
+    }
+}
+
+/// Takes the LF of a CR LF, after its CR.
+fn take_feed(left: &mut Characters)
+    ensures { left.new ≡ fed left.old }
+{
+    if left.is_at('\n') {
+        left.next();
     }
 }
 
