@@ -4,3 +4,7 @@ pub mod Blocks
 pub mod Digits
 pub mod Longest
 pub mod Quoted
+pub mod Escaped
+pub mod Named
+pub mod Answering
+pub mod Passing

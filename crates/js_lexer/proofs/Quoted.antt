@@ -2,6 +2,7 @@
 use Rattle.std.proofs.Common.{◌≡◌, ◌≢◌, ℕ, zero, suc, ◌+◌, ◌==◌, Bool, true, false, ◌&&◌, ◌||◌, List, [], ◌∷◌, ◌++◌, length, Option, Some, None, Result, Ok, Err, refl, sym, ◌∙◌, ap, subst, arith, append_assoc}
 use Rattle.std.proofs.lemmas.Bool.Decides.{nat_tests}
 use Rattle.js_value.specs.Text.{utf16}
+use Rattle.js_value.proofs.Sequences.{and_false}
 use Rattle.es_model.specs.declared.faults.LexFault.{LexFault}
 use Rattle.es_model.specs.declared.faults.LexFault.TheVariants.{OpenString, OpenTemplate, BadEscape}
 use Rattle.es_model.specs.Tokens as s
@@ -66,41 +67,15 @@ next_left left c h = by_text left.at left.text h
     by_text at [] h = absurd (cc h)
     by_text at (d ∷ cs) h = let same : d ≡ c = cc h in ap (λ v. record { at = at + width v; text = cs }) same
 
-pub string-ends : (quote begun : ℕ) (left : Left) → None ≡ first_of left.text → string quote begun left ≡ Err (OpenString begun)
-string-ends quote begun left h = by_text left.at left.text h
-  where
-    by_text : (at : ℕ) (text : List ℕ) → None ≡ first_of text → string quote begun (record { at = at; text = text }) ≡ Err (OpenString begun)
-    by_text at [] h = refl
-    by_text at (d ∷ cs) h = absurd (cc h)
-
-pub string-closes : (quote begun : ℕ) (left : Left) (c : ℕ) → Some c ≡ first_of left.text → c ≡ quote → string quote begun left ≡ Ok ([], skip 1 left)
-string-closes quote begun left c h e =
-    let test : (c == quote) ≡ true = grind (arith, nat_tests) in
-    let inside : in_string quote c ≡ Closes = rw test refl in
-    string_by quote begun left c Closes h inside ∙ ap (λ l. Ok ([], l)) (sym (next_left left c h))
-
-pub string-breaks : (quote begun : ℕ) (left : Left) (c : ℕ) → Some c ≡ first_of left.text → c ≢ quote → ((c == 10) || (c == 13)) ≡ true → string quote begun left ≡ Err (OpenString begun)
-string-breaks quote begun left c h e breaks =
-    let test : (c == quote) ≡ false = grind (arith, nat_tests) in
-    let inside : in_string quote c ≡ Breaks = rw (test, breaks) refl in
-    string_by quote begun left c Breaks h inside
-
-pub string-stands : (quote begun : ℕ) (left : Left) (c : ℕ) → Some c ≡ first_of left.text → c ≢ quote → ((c == 10) || (c == 13)) ≡ false → c ≢ 92 → string quote begun left ≡ put (utf16 c) (string quote begun (skip 1 left))
-string-stands quote begun left c h e breaks plain =
-    let test : (c == quote) ≡ false = grind (arith, nat_tests) in
-    let other : (c == 92) ≡ false = grind (arith, nat_tests) in
-    let inside : in_string quote c ≡ Stands = rw (test, breaks, other) refl in
-    string_by quote begun left c Stands h inside
-    ∙ string_left-after 1 (utf16 c) (record { at = left.at; text = c ∷ (skip 1 left).text }) (s.string_from quote 0 begun (left.at + width c) (skip 1 left).text)
-    ∙ ap (λ l. put (utf16 c) (string quote begun l)) (sym (next_left left c h))
+abbrev inside_by : (quote breaks back : Bool) → Inside
+inside_by quote breaks back = elim quote [ true ↦ Closes | false ↦ elim breaks [ true ↦ Breaks | false ↦ elim back [ true ↦ Escapes | false ↦ Stands ] ] ]
 
 is_escape : (quote c : ℕ) → c ≢ quote → c ≡ 92 → in_string quote c ≡ Escapes
 is_escape quote c e b =
     let test : (c == quote) ≡ false = grind (arith, nat_tests) in
-    let lf : (c == 10) ≡ false = grind (arith, nat_tests) in
-    let cr : (c == 13) ≡ false = grind (arith, nat_tests) in
+    let breaks : ((c == 10) || (c == 13)) ≡ false = grind (arith, nat_tests) in
     let back : (c == 92) ≡ true = grind (arith, nat_tests) in
-    rw (test, lf, cr, back) refl
+    ap (λ t. inside_by t ((c == 10) || (c == 13)) (c == 92)) test ∙ ap (λ t. inside_by false t (c == 92)) breaks ∙ ap (λ t. inside_by false false t) back
 
 abbrev escaped : Left → Option (List ℕ × ℕ) → Option (List ℕ × Left)
 escaped left found = elim found [ Some (units, count) ↦ Some (units, skip count left) | None ↦ None ]
@@ -159,6 +134,19 @@ piece_passed begun (suc n) at (c ∷ cs) =
     ∙ sym (put_piece-nil (piece_left (record { at = at + width c; text = cs }) (s.template_from n begun (at + width c) cs)))
     ∙ piece_passed begun n (at + width c) cs
 
+abbrev template_by : (closes substitutes returns back : Bool) → Inside
+template_by closes substitutes returns back = elim closes [ true ↦ Closes | false ↦ elim substitutes [ true ↦ Substitutes | false ↦ elim returns [ true ↦ Returns | false ↦ elim back [ true ↦ Escapes | false ↦ Stands ] ] ] ]
+
+template_is : (c : ℕ) (cs : List ℕ) (substitutes returns back : Bool) → (c == 96) ≡ false → ((c == 36) && s.first_is (λ d. d == 123) cs) ≡ substitutes → (c == 13) ≡ returns → (c == 92) ≡ back → in_template c cs ≡ template_by false substitutes returns back
+template_is c cs substitutes returns back a b d e =
+    ap (λ t. template_by t ((c == 36) && s.first_is (λ d. d == 123) cs) (c == 13) (c == 92)) a
+    ∙ ap (λ t. template_by false t (c == 13) (c == 92)) b
+    ∙ ap (λ t. template_by false substitutes t (c == 92)) d
+    ∙ ap (λ t. template_by false substitutes returns t) e
+
+not_dollar : (c : ℕ) (b : Bool) → (c == 36) ≡ false → ((c == 36) && b) ≡ false
+not_dollar c b e = ap (λ t. t && b) e
+
 abbrev piece_step : (begun at c : ℕ) → List ℕ → Inside → Result ((List ℕ × Bool) × Left) LexFault
 piece_step begun at c cs inside =
     piece_left (record { at = at; text = c ∷ cs }) (elim inside [
@@ -180,36 +168,22 @@ piece_by begun left c inside h is = by_text left.at left.text h is
         let P : ℕ → Type 0 = λ v. piece begun (record { at = at; text = v ∷ cs }) ≡ piece_step begun at c cs inside in
         subst P same (ap (piece_step begun at c cs) is)
 
-pub piece-ends : (begun : ℕ) (left : Left) → None ≡ first_of left.text → piece begun left ≡ Err (OpenTemplate begun)
-piece-ends begun left h = by_text left.at left.text h
-  where
-    by_text : (at : ℕ) (text : List ℕ) → None ≡ first_of text → piece begun (record { at = at; text = text }) ≡ Err (OpenTemplate begun)
-    by_text at [] h = refl
-    by_text at (d ∷ cs) h = absurd (cc h)
-
-pub piece-closes : (begun : ℕ) (left : Left) (c : ℕ) → Some c ≡ first_of left.text → c ≡ 96 → piece begun left ≡ Ok (([], true), skip 1 left)
-piece-closes begun left c h e =
-    let test : (c == 96) ≡ true = grind (arith, nat_tests) in
-    let inside : in_template c (skip 1 left).text ≡ Closes = rw test refl in
-    piece_by begun left c Closes h inside ∙ ap (λ l. Ok (([], true), l)) (sym (next_left left c h))
-
-abbrev substitutes : ℕ → Left → Bool
+abbrev pub substitutes : ℕ → Left → Bool
 substitutes c left = (c == 36) && s.first_is (λ d. d == 123) left.text
 
-pub piece-substitutes : (begun : ℕ) (left : Left) (c : ℕ) → Some c ≡ first_of left.text → c ≡ 36 → s.first_is (λ d. d == 123) (skip 1 left).text ≡ true → piece begun left ≡ Ok (([], false), skip 1 (skip 1 left))
-piece-substitutes begun left c h e open =
-    let other : (c == 96) ≡ false = grind (arith, nat_tests) in
-    let test : (c == 36) ≡ true = grind (arith, nat_tests) in
-    let inside : in_template c (skip 1 left).text ≡ Substitutes = rw (other, test, open) refl in
-    piece_by begun left c Substitutes h inside
-    ∙ ap (λ l. Ok (([], false), skip 1 l)) (sym (next_left left c h))
+pub not_open : (c : ℕ) (left new : Left) → new ≡ skip 1 left → false ≡ s.first_is (λ d. d == 123) new.text → substitutes c (skip 1 left) ≡ false
+not_open c left new n h = ap (λ l. substitutes c l) (sym n) ∙ ap (λ b. (c == 36) && b) (sym h) ∙ and_false (c == 36)
+
+pub no_dollar : (c : ℕ) (left : Left) → c ≢ 36 → substitutes c left ≡ false
+no_dollar c left h = let test : (c == 36) ≡ false = grind (arith, nat_tests) in not_dollar c (s.first_is (λ d. d == 123) left.text) test
 
 pub piece-returns : (begun : ℕ) (left : Left) (c : ℕ) → Some c ≡ first_of left.text → c ≡ 13 → piece begun left ≡ put_piece (10 ∷ []) (piece begun (fed (skip 1 left)))
 piece-returns begun left c h e =
     let other : (c == 96) ≡ false = grind (arith, nat_tests) in
     let test : (c == 36) ≡ false = grind (arith, nat_tests) in
-    let return : (c == 13) ≡ true = grind (arith, nat_tests) in
-    let inside : in_template c (skip 1 left).text ≡ Returns = rw (other, test, return) refl in
+    let returns : (c == 13) ≡ true = grind (arith, nat_tests) in
+    let back : (c == 92) ≡ false = grind (arith, nat_tests) in
+    let inside : in_template c (skip 1 left).text ≡ Returns = template_is c (skip 1 left).text false true false other (not_dollar c (s.first_is (λ d. d == 123) (skip 1 left).text) test) returns back in
     let one : width c ≡ 1 = width-1 c (omega arith) in
     piece_by begun left c Returns h inside
     ∙ piece_left-after 1 (10 ∷ []) (record { at = left.at; text = c ∷ (skip 1 left).text }) (s.template_from (elim (s.first_is (λ d. d == 10) (skip 1 left).text) [ true ↦ 1 | false ↦ 0 ]) begun (left.at + 1) (skip 1 left).text)
@@ -220,9 +194,9 @@ piece-returns begun left c h e =
 pub piece-stands : (begun : ℕ) (left : Left) (c : ℕ) → Some c ≡ first_of left.text → c ≢ 96 → substitutes c (skip 1 left) ≡ false → c ≢ 13 → c ≢ 92 → piece begun left ≡ put_piece (utf16 c) (piece begun (skip 1 left))
 piece-stands begun left c h e plain line back =
     let closing : (c == 96) ≡ false = grind (arith, nat_tests) in
-    let return : (c == 13) ≡ false = grind (arith, nat_tests) in
+    let returns : (c == 13) ≡ false = grind (arith, nat_tests) in
     let other : (c == 92) ≡ false = grind (arith, nat_tests) in
-    let inside : in_template c (skip 1 left).text ≡ Stands = rw (closing, plain, return, other) refl in
+    let inside : in_template c (skip 1 left).text ≡ Stands = template_is c (skip 1 left).text false false false closing plain returns other in
     piece_by begun left c Stands h inside
     ∙ piece_left-after 1 (utf16 c) (record { at = left.at; text = c ∷ (skip 1 left).text }) (s.template_from 0 begun (left.at + width c) (skip 1 left).text)
     ∙ ap (λ l. put_piece (utf16 c) (piece begun l)) (sym (next_left left c h))
@@ -231,9 +205,9 @@ piece_escape : (c : ℕ) (cs : List ℕ) → c ≡ 92 → in_template c cs ≡ E
 piece_escape c cs b =
     let closing : (c == 96) ≡ false = grind (arith, nat_tests) in
     let dollar : (c == 36) ≡ false = grind (arith, nat_tests) in
-    let return : (c == 13) ≡ false = grind (arith, nat_tests) in
+    let returns : (c == 13) ≡ false = grind (arith, nat_tests) in
     let back : (c == 92) ≡ true = grind (arith, nat_tests) in
-    rw (closing, dollar, return, back) refl
+    template_is c cs false false true closing (not_dollar c (s.first_is (λ d. d == 123) cs) dollar) returns back
 
 pub piece-escapes : (begun : ℕ) (left : Left) (c : ℕ) (units : List ℕ) (new : Left) → Some c ≡ first_of left.text → c ≡ 92 → escape (skip 1 left) ≡ Some (units, new) → piece begun left ≡ put_piece units (piece begun new)
 piece-escapes begun left c units new h b is =

@@ -1,5 +1,5 @@
 -- What a reader answers.
-use Rattle.std.specs.Prelude.{◌≡◌, ◌≢◌, ◌==◌, ◌&&◌, ◌+◌, ◌-◌, nat_le, ℕ, Bool, true, false, not, List, [], ◌∷◌, ◌++◌, length, take_while, take, drop, min, Option, Some, None, Result, Ok, Err, option_map}
+use Rattle.std.specs.Prelude.{◌≡◌, ◌≢◌, ◌<◌, ◌==◌, ◌&&◌, ◌+◌, ◌-◌, nat_le, ℕ, Bool, true, false, not, List, [], ◌∷◌, ◌++◌, length, take_while, take, drop, min, Option, Some, None, Result, Ok, Err, option_map}
 use Rattle.std.specs.List.{list_any}
 use Rattle.js_value.specs.Text.{utf16}
 use Rattle.es_model.specs.declared.faults.LexFault.{LexFault}
@@ -92,6 +92,11 @@ plain c left =
 abbrev pub units_of : Escape → List ℕ
 units_of Continuation = []
 units_of (CodePoint c) = utf16 c
+
+-- a code point of Unicode
+abbrev pub IsCodePoint : Escape → Type 0
+IsCodePoint Continuation = Unit {0}
+IsCodePoint (CodePoint c) = c < 0x110000
 
 -- what a text becomes by an escape that stands at a place
 abbrev pub Escapes : (at : ℕ) → Option (List ℕ × Left) → List ℕ → Result Unit LexFault → List ℕ → Left → Type 0

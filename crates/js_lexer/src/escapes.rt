@@ -2,7 +2,7 @@
 
 ghost use Rattle.std.specs.Prelude.{◌≡◌, ◌<◌, IfSome, option_map};
 ghost use Rattle.es_model.specs.Tokens.{named_by};
-ghost use Rattle.js_lexer.specs.Reads.{Finds, escape, plain, unicode, code_point, hexadecimal, units_of};
+ghost use Rattle.js_lexer.specs.Reads.{Finds, IsCodePoint, escape, plain, unicode, code_point, hexadecimal, units_of};
 
 use crate::characters::Characters;
 use crate::classes::{digit_value, is_digit, is_line_break};
@@ -18,7 +18,8 @@ pub enum Escape {
 
 /// Takes an escape, after its backslash. None where it is none; some of it may be taken then.
 pub fn take_escape(left: &mut Characters) -> Option<Escape>
-    ensures { Finds (escape left.old) (option_map units_of result) left.new }
+    ensures value { Finds (escape left.old) (option_map units_of result) left.new }
+    ensures bound { IfSome result IsCodePoint }
 {
     let c = left.next()?;
     if c == 'x' {
@@ -53,7 +54,8 @@ fn named_by(c: char) -> Option<u32>
 
 /// `\0`, a line continuation, or a character that stands for itself, after its first character.
 fn plain(c: char, left: &mut Characters) -> Option<Escape>
-    ensures { Finds (plain c left.old) (option_map units_of result) left.new }
+    ensures value { Finds (plain c left.old) (option_map units_of result) left.new }
+    ensures bound { IfSome result IsCodePoint }
 {
     if is_digit(c) {
         if c != '0' || left.is_at_digit() {
@@ -74,6 +76,7 @@ fn plain(c: char, left: &mut Characters) -> Option<Escape>
 /// The value of `\uHHHH` or `\u{H..}`, after the letter.
 fn unicode(left: &mut Characters) -> Option<u32>
     ensures value { Finds (unicode left.old) result left.new }
+    ensures bound { IfSome result (λ value. value < 0x110000) }
 {
     if left.is_at('{') {
         left.next();
@@ -86,7 +89,8 @@ fn unicode(left: &mut Characters) -> Option<u32>
 
 /// The value of `\u{H..}`, after the brace.
 fn code_point(left: &mut Characters) -> Option<u32>
-    ensures { Finds (code_point left.old) result left.new }
+    ensures value { Finds (code_point left.old) result left.new }
+    ensures bound { IfSome result (λ value. value < 0x110000) }
 {
     if digit_value(left.first()?) >= 16 {
         return None;
