@@ -7,4 +7,5 @@ pub mod Quoted
 pub mod Escaped
 pub mod Named
 pub mod Answering
+pub mod Signs
 pub mod Passing

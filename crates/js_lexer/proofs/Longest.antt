@@ -57,15 +57,13 @@ begins_front (suc m) (c ∷ cs) = ap (λ t. t && begins (take m cs) cs) (self_na
 -- what holds of each row holds of a text that is one
 pub held : (p : List ℕ → Bool) (n : ℕ) (rows : List (List ℕ)) (text : List ℕ) (k : ℕ) → list_all p rows ≡ true → place_from n rows text ≡ Some k → p text ≡ true
 held p n [] text k all is = absurd (cc is)
-held p n (row ∷ rows) text k all is = by_test (same_text row text) refl is
+held p n (row ∷ rows) text k all is =
+    let both = and_true (p row) (list_all p rows) all in
+    by_test (same_text row text) both.0 (held p (suc n) rows text k both.1) refl is
   where
-    both : (p row ≡ true) × (list_all p rows ≡ true)
-    both = and_true (p row) (list_all p rows) all
-    later : place_from (suc n) rows text ≡ Some k → p text ≡ true
-    later is = held p (suc n) rows text k both.1 is
-    by_test : (b : Bool) → same_text row text ≡ b → placed b n (place_from (suc n) rows text) ≡ Some k → p text ≡ true
-    by_test true same is = ap p (sym (same_true row text same)) ∙ both.0
-    by_test false same is = later is
+    by_test : (b : Bool) → p row ≡ true → (place_from (suc n) rows text ≡ Some k → p text ≡ true) → same_text row text ≡ b → placed b n (place_from (suc n) rows text) ≡ Some k → p text ≡ true
+    by_test true holds later same is = ap p (sym (same_true row text same)) ∙ holds
+    by_test false holds later same is = later is
 
 abbrev Found : ℕ → List (List ℕ) → List ℕ → Type 0
 Found n rows text = is_some (place_from n rows text) ≡ true
@@ -85,15 +83,18 @@ pub record IsFound (n : ℕ) (rows : List (List ℕ)) (text : List ℕ) (size : 
   pub row : Found n rows (take size text)
   pub within : size ≤ length text
 
-same_size : (n size k s : ℕ) → Some (n, size) ≡ Some (k, s) → size ≡ s
-same_size n size k s e = cc e
+same_pair : (a b : ℕ × ℕ) → Some a ≡ Some b → a ≡ b
+same_pair a b e = cc e
+
+same_size : (n size k s : ℕ) → ◌≡◌ {A = Option (ℕ × ℕ)} (Some (n, size)) (Some (k, s)) → size ≡ s
+same_size n size k s e = ap (λ p. p.1) (same_pair (n, size) (k, s) e)
 
 longest_found : (n : ℕ) (rows : List (List ℕ)) (text : List ℕ) (k size : ℕ) → longest_from n rows text ≡ Some (k, size) → IsFound n rows text size
 longest_found n [] text k size h = absurd (cc h)
-longest_found n (row ∷ rows) text k size h = by_test (begins row text) refl h
+longest_found n (row ∷ rows) text k size h = by_test (begins row text) (longest_found (suc n) rows text k size) refl h
   where
-    later : longest_from (suc n) rows text ≡ Some (k, size) → IsFound n (row ∷ rows) text size
-    later e = let f = longest_found (suc n) rows text k size e in record { row = found_later n row rows (take size text) f.row; within = f.within }
+    past : IsFound (suc n) rows text size → IsFound n (row ∷ rows) text size
+    past f = record { row = found_later n row rows (take size text) f.row; within = f.within }
     here : begins row text ≡ true → length row ≡ size → IsFound n (row ∷ rows) text size
     here b e =
         let front = begins_take row text b in
@@ -101,15 +102,15 @@ longest_found n (row ∷ rows) text k size h = by_test (begins row text) refl h
           row = ap is_some (found_here n row rows (take size text) (sym (ap (λ m. take m text) (sym e) ∙ front.0)));
           within = omega (arith, front.1);
         }
-    by_size : (b : Bool) (m other : ℕ) → begins row text ≡ true → longest_from (suc n) rows text ≡ Some (m, other) → elim b [ true ↦ Some (m, other) | false ↦ Some (n, length row) ] ≡ Some (k, size) → IsFound n (row ∷ rows) text size
-    by_size true m other is r e = later (r ∙ e)
-    by_size false m other is r e = here is (same_size n (length row) k size e)
-    by_rest : (r : Option (ℕ × ℕ)) → begins row text ≡ true → longest_from (suc n) rows text ≡ r → longer n (length row) r ≡ Some (k, size) → IsFound n (row ∷ rows) text size
-    by_rest None is r e = here is (same_size n (length row) k size e)
-    by_rest (Some (m, other)) is r e = by_size (nat_lt (length row) other) m other is r e
-    by_test : (b : Bool) → begins row text ≡ b → chosen b n (length row) (longest_from (suc n) rows text) ≡ Some (k, size) → IsFound n (row ∷ rows) text size
-    by_test true is e = by_rest (longest_from (suc n) rows text) is refl e
-    by_test false is e = later e
+    by_size : (b : Bool) (m other : ℕ) → (longest_from (suc n) rows text ≡ Some (k, size) → IsFound (suc n) rows text size) → begins row text ≡ true → longest_from (suc n) rows text ≡ Some (m, other) → elim b as (λ _. Option (ℕ × ℕ)) [ true ↦ Some (m, other) | false ↦ Some (n, length row) ] ≡ Some (k, size) → IsFound n (row ∷ rows) text size
+    by_size true m other later is r e = past (later (r ∙ e))
+    by_size false m other later is r e = here is (same_size n (length row) k size e)
+    by_rest : (r : Option (ℕ × ℕ)) → (longest_from (suc n) rows text ≡ Some (k, size) → IsFound (suc n) rows text size) → begins row text ≡ true → longest_from (suc n) rows text ≡ r → longer n (length row) r ≡ Some (k, size) → IsFound n (row ∷ rows) text size
+    by_rest None later is r e = here is (same_size n (length row) k size e)
+    by_rest (Some (m, other)) later is r e = by_size (nat_lt (length row) other) m other later is r e
+    by_test : (b : Bool) → (longest_from (suc n) rows text ≡ Some (k, size) → IsFound (suc n) rows text size) → begins row text ≡ b → chosen b n (length row) (longest_from (suc n) rows text) ≡ Some (k, size) → IsFound n (row ∷ rows) text size
+    by_test true later is e = by_rest (longest_from (suc n) rows text) later is refl e
+    by_test false later is e = past (later e)
 
 -- no longer front is a row
 abbrev NoLonger : ℕ → List (List ℕ) → List ℕ → ℕ → Type 0
@@ -141,15 +142,13 @@ none_longest n rows text none empty = by_result (longest_from n rows text) refl
 
 longest_from_is : (n : ℕ) (rows : List (List ℕ)) (text : List ℕ) (m k : ℕ) → m ≤ length text → place_from n rows (take m text) ≡ Some k → NoLonger n rows text m → longest_from n rows text ≡ Some (k, m)
 longest_from_is n [] text m k short is none = absurd (cc is)
-longest_from_is n (row ∷ rows) text m k short is none = by_test (begins row text) refl
+longest_from_is n (row ∷ rows) text m k short is none = by_test (begins row text) (λ e. longest_from_is (suc n) rows text m k short e (none_later n row rows text m none)) refl
   where
-    later : place_from (suc n) rows (take m text) ≡ Some k → longest_from (suc n) rows text ≡ Some (k, m)
-    later e = longest_from_is (suc n) rows text m k short e (none_later n row rows text m none)
     not_this : same_text row (take m text) ≡ false → place_from (suc n) rows (take m text) ≡ Some k
     not_this e = sym (ap (λ b. placed b n (place_from (suc n) rows (take m text))) e) ∙ is
     other_row : (b : Bool) → same_text row (take m text) ≡ b → (same_text row (take m text) ≡ true → ⊥) → same_text row (take m text) ≡ false
-    other_row true e no = absurd (no e)
-    other_row false e no = e
+    other_row true e never = absurd (never e)
+    other_row false e never = e
     by_size : (r : Option (ℕ × ℕ)) → longest_from (suc n) rows text ≡ r → length row ≡ m → n ≡ k → longer n (length row) r ≡ Some (k, m)
     by_size None e size place = ap (λ p. Some p) (ap (λ a. (a, length row)) place ∙ ap (λ a. (k, a)) size)
     by_size (Some (a, other)) e size place =
@@ -157,8 +156,8 @@ longest_from_is n (row ∷ rows) text m k short is none = by_test (begins row te
         let test : nat_lt (length row) other ≡ false = grind (arith, nat_tests) in
         ap (λ b. elim b as (λ _. Option (ℕ × ℕ)) [ true ↦ Some (a, other) | false ↦ Some (n, length row) ]) test
         ∙ ap (λ p. Some p) (ap (λ x. (x, length row)) place ∙ ap (λ x. (k, x)) size)
-    begun : begins row text ≡ true → longer n (length row) (longest_from (suc n) rows text) ≡ Some (k, m)
-    begun b =
+    begun : (place_from (suc n) rows (take m text) ≡ Some k → longest_from (suc n) rows text ≡ Some (k, m)) → begins row text ≡ true → longer n (length row) (longest_from (suc n) rows text) ≡ Some (k, m)
+    begun later b =
         let front = begins_take row text b in
         ⊎_elim
         (λ (l : length row < m).
@@ -179,9 +178,9 @@ longest_from_is n (row ∷ rows) text m k short is none = by_test (begins row te
         by_size (longest_from (suc n) rows text) refl size place)
         (cases_lt m (length row)))
         (cases_lt (length row) m)
-    by_test : (b : Bool) → begins row text ≡ b → chosen b n (length row) (longest_from (suc n) rows text) ≡ Some (k, m)
-    by_test true e = begun e
-    by_test false e = later (not_this (other_row (same_text row (take m text)) refl (λ same. let never : true ≡ false = sym (ap (λ l. begins l text) (same_true row (take m text) same) ∙ begins_front m text) ∙ e in absurd (cc never))))
+    by_test : (b : Bool) → (place_from (suc n) rows (take m text) ≡ Some k → longest_from (suc n) rows text ≡ Some (k, m)) → begins row text ≡ b → chosen b n (length row) (longest_from (suc n) rows text) ≡ Some (k, m)
+    by_test true later e = begun later e
+    by_test false later e = later (not_this (other_row (same_text row (take m text)) refl (λ same. let never : true ≡ false = sym (ap (λ l. begins l text) (same_true row (take m text) same) ∙ begins_front m text) ∙ e in absurd (cc never))))
 
 -- The table of signs: each front of a sign is a sign, no sign has more than four characters, and all are ASCII.
 
@@ -203,6 +202,12 @@ all_short = refl
 all_ascii : list_all is_ascii signs ≡ true
 all_ascii = refl
 
+beyond_one : (n : ℕ) → 2 ≤ n → nat_le n 1 ≡ false
+beyond_one n h = grind (arith, nat_tests)
+
+beyond_four : (n : ℕ) → 4 < n → nat_le n 4 ≡ false
+beyond_four n h = grind (arith, nat_tests)
+
 -- no front is a sign from one on that is none
 no_longer : (text : List ℕ) (m : ℕ) → 1 ≤ m → place_from 0 signs (take m text) ≡ None → (j : ℕ) → m ≤ j → j ≤ length text → place_from 0 signs (take j text) ≡ None
 no_longer text m some none zero l h = absurd (omega arith)
@@ -211,17 +216,17 @@ no_longer text m some none (suc j) l h =
     (λ (e : m ≡ suc j). rw (← e) none)
     (λ (more : m ≤ j).
     let before : place_from 0 signs (take j text) ≡ None = no_longer text m some none j more (omega arith) in
-    by_sign (place_from 0 signs (take (suc j) text)) refl before)
+    by_sign (place_from 0 signs (take (suc j) text)) (omega arith) refl before)
     (eq_or_le m j l)
   where
     eq_or_le : (m j : ℕ) → m ≤ suc j → (m ≡ suc j) ⊎ (m ≤ j)
     eq_or_le m j l = ⊎_elim (λ (a : j < m). inl (omega arith)) (λ (b : m ≤ j). inr b) (cases_lt j m)
-    by_sign : (r : Option ℕ) → place_from 0 signs (take (suc j) text) ≡ r → place_from 0 signs (take j text) ≡ None → place_from 0 signs (take (suc j) text) ≡ None
-    by_sign None e before = e
-    by_sign (Some k) e before =
+    by_sign : (r : Option ℕ) → 1 ≤ j → place_from 0 signs (take (suc j) text) ≡ r → place_from 0 signs (take j text) ≡ None → place_from 0 signs (take (suc j) text) ≡ None
+    by_sign None two e before = e
+    by_sign (Some k) two e before =
         let closed : is_front_closed (take (suc j) text) ≡ true = held is_front_closed 0 signs (take (suc j) text) k fronts_closed e in
         let size : length (take (suc j) text) ≡ suc j = length-take-le (suc j) text h in
-        let long : nat_le (length (take (suc j) text)) 1 ≡ false = grind (arith, nat_tests) in
+        let long : nat_le (length (take (suc j) text)) 1 ≡ false = beyond_one (length (take (suc j) text)) (omega arith) in
         let front : take (length (take (suc j) text) - 1) (take (suc j) text) ≡ take j text = ap (λ n. take n (take (suc j) text)) (let s : length (take (suc j) text) - 1 ≡ j = omega arith in s) ∙ take-take j (suc j) text (omega arith) in
         let one : is_some (place_from 0 signs (take (length (take (suc j) text) - 1) (take (suc j) text))) ≡ true = sym (ap (λ b. b || is_some (place_from 0 signs (take (length (take (suc j) text) - 1) (take (suc j) text)))) long) ∙ closed in
         let never : false ≡ true = sym (ap is_some (ap (place_from 0 signs) front ∙ before)) ∙ one in
@@ -241,7 +246,7 @@ not_short text long = by_sign (place_from 0 signs text) refl
   where
     by_sign : (r : Option ℕ) → place_from 0 signs text ≡ r → place_from 0 signs text ≡ None
     by_sign None e = e
-    by_sign (Some k) e = let short : nat_le (length text) 4 ≡ true = held is_short 0 signs text k all_short e in absurd (grind (arith, nat_tests))
+    by_sign (Some k) e = let never : false ≡ true = sym (beyond_four (length text) long) ∙ held is_short 0 signs text k all_short e in absurd (cc never)
 
 last_fails : (front : List ℕ) (c : ℕ) → 128 ≤ c → is_ascii (front ++ c ∷ []) ≡ false
 last_fails [] c h = let test : nat_lt c 128 ≡ false = grind (arith, nat_tests) in ap (λ b. b && true) test

@@ -1,7 +1,7 @@
 //! Number literals (ECMA-262, 12.9.3, without what the language leaves out).
 
 ghost use Rattle.std.specs.Prelude.{◌≡◌, ◌≤◌, take_while};
-ghost use Rattle.es_model.specs.Tokens.{number_after, number_element, number_literal, is_digit_of};
+ghost use Rattle.es_model.specs.Tokens.{first_is, goes_on, number_after, number_element, number_literal, is_digit_of};
 ghost use Rattle.js_lexer.specs.Left.{skip};
 ghost use Rattle.js_lexer.specs.Reads.{Reads, found, behind, capped};
 
@@ -18,15 +18,23 @@ pub fn take_number(at: u32, first: char, left: &mut Characters) -> Result<Found,
     ensures { Reads (found (number_element at first left.old.text) left.old) result left.new }
 {
     let value = literal(first, left);
-    if let Some(next) = left.first() {
-        if goes_on(next) {
-            return Err(LexFault::NumberForm(at));
-        }
+    if is_followed(left) {
+        return Err(LexFault::NumberForm(at));
     }
     if value >= TOO_LARGE {
         return Err(LexFault::NumberTooLarge(at));
     }
     Ok(Found::Token(TokenKind::Number(value as i64)))
+}
+
+/// Whether what may not stand directly after a number is next.
+fn is_followed(left: &Characters) -> bool
+    ensures { result ≡ first_is goes_on left.now.text }
+{
+    match left.first() {
+        Some(next) => goes_on(next),
+        None => false,
+    }
 }
 
 /// The value of the longest literal that begins with a digit, cut to `TOO_LARGE`.

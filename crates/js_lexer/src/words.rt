@@ -1,6 +1,6 @@
 //! Names, keywords and signs (ECMA-262, 12.7 and 12.8).
 
-ghost use Rattle.std.specs.Prelude.{◌≡◌, ◌<◌, ◌∷◌, ◌++◌, OnOk};
+ghost use Rattle.std.specs.Prelude.{◌≡◌, ◌<◌, ◌≤◌, ◌∷◌, ◌++◌, MatchOption, OnOk};
 ghost use Rattle.js_value.specs.Text.{utf16};
 ghost use Rattle.es_model.specs.Tokens.{name_element, sign_element};
 ghost use Rattle.js_lexer.specs.Reads.{Finds, Reads, found, sign, word_of};
@@ -76,20 +76,17 @@ pub fn take_sign(at: u32, first: char, left: &mut Characters) -> Result<Found, L
 fn longest_sign(first: char, left: &mut Characters) -> Option<u8>
     ensures { Finds (sign first left.old) result left.new }
 {
-    if !first.is_ascii() {
-        return None;
-    }
-    let mut units = [first as u16; LONGEST];
+    let mut units = [ascii(first)?; LONGEST];
     let mut longest = sign(&units[..1])?;
     let mut length = 1;
     while length < LONGEST {
         let Some(next) = left.first() else {
             break;
         };
-        if !next.is_ascii() {
+        let Some(unit) = ascii(next) else {
             break;
-        }
-        units[length] = next as u16;
+        };
+        units[length] = unit;
         let Some(longer) = sign(&units[..length + 1]) else {
             break;
         };
@@ -98,4 +95,14 @@ fn longest_sign(first: char, left: &mut Characters) -> Option<u8>
         left.next();
     }
     Some(longest)
+}
+
+/// The unit of an ASCII character.
+fn ascii(c: char) -> Option<u16>
+    ensures { MatchOption result (128 ≤ c) (λ unit. unit ≡ c) }
+{
+    if c as u32 >= 128 {
+        return None;
+    }
+    Some(c as u16)
 }

@@ -8,9 +8,9 @@ invariant-loop-length l = record {
   some : 1 ≤ l.length;
   short : l.length ≤ 4;
   room : length l.units ≡ 4;
-  within : l.length ≤ length (l.first ∷ l.fn.left.text);
-  front : take l.length l.units ≡ take l.length (l.first ∷ l.fn.left.text);
-  sign : place_from 0 signs (take l.length (l.first ∷ l.fn.left.text)) ≡ Some l.longest;
+  within : l.length ≤ length (l.fn.first ∷ l.fn.left.text);
+  front : take l.length l.units ≡ take l.length (l.fn.first ∷ l.fn.left.text);
+  sign : place_from 0 signs (take l.length (l.fn.first ∷ l.fn.left.text)) ≡ Some l.longest;
   rest : l.left ≡ skip (l.length - 1) l.fn.left;
 }
 
