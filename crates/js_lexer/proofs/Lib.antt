@@ -9,3 +9,4 @@ pub mod Named
 pub mod Answering
 pub mod Signs
 pub mod Passing
+pub mod Standing

@@ -59,10 +59,10 @@ by_first P c each left h = by_text left.at left.text h
 pub place_after : (left new : Left) (c : ℕ) → Some c ≡ first_of left.text → new ≡ skip 1 left → new.at ≡ left.at + width c
 place_after left new c h n = ap (λ l. l.at) n ∙ by_first (λ old new. new.at ≡ old.at + width c) c (λ at cs. refl) left h
 
-ok_same : (a b : Found × Left) → Ok {E = LexFault} a ≡ Ok b → a ≡ b
+ok_same : (a b : Found × Left) → ◌≡◌ {A = Result (Found × Left) LexFault} (Ok a) (Ok b) → a ≡ b
 ok_same a b e = cc e
 
-err_same : (a b : LexFault) → Err {T = Found × Left} a ≡ Err b → a ≡ b
+err_same : (a b : LexFault) → ◌≡◌ {A = Result (Found × Left) LexFault} (Err a) (Err b) → a ≡ b
 err_same a b e = cc e
 
 gap_same : (a b : Bool) → Gap a ≡ Gap b → a ≡ b

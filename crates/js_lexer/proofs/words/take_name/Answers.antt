@@ -9,6 +9,7 @@ use Rattle.js_lexer.specs.Reads.{behind, word_of}
 use Rattle.js_lexer.proofs.Lefts.{Stops, goes_on, stops, ends}
 use Rattle.js_lexer.proofs.Named.{name_found}
 use Rattle.js_lexer.proofs.words.take_name.Goals as goal
+use Rattle.js_lexer.proofs.words.take_name.Goals.{in-Some+then-not-is_name_part, in_default}
 
 pub loop-c-preserved : goal.loop-c-preserved
 loop-c-preserved c =
@@ -24,4 +25,12 @@ loop-c-preserved c =
     }
 
 pub returns : goal.returns
-returns c = ?
+returns c =
+    let stop : Stops is_name_part c.loop-c.left =
+    elim c.match-first.branch [
+      | in-Some+then-not-is_name_part w ↦ stops is_name_part c.loop-c.left w.in-Some.c w.in-Some.ensures (sym w.if-not-is_name_part.ensures)
+      | in_default w ↦ ends is_name_part c.loop-c.left w.in_default.ensures
+    ] in
+    name_found c.args.first c.args.left.now c.loop-c.text (c.loop-c.invariant.text ∙ ap (λ l. c.loop-c.text ++ flat_map utf16 l) stop.taken ∙ append-nil c.loop-c.text)
+    ∙ ap (λ t. Ok (Token t, behind is_name_part c.args.left.now)) (sym c.word.ensures)
+    ∙ ap (λ l. Ok (Token c.word.result, l)) (c.loop-c.invariant.rest ∙ stop.rest)
