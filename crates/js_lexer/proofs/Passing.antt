@@ -1,8 +1,9 @@
 -- The pass over a text, an element at a time.
 use Rattle.std.proofs.Common.{◌≡◌, ℕ, zero, suc, ◌+◌, ◌≤◌, Bool, true, false, ◌||◌, List, [], ◌∷◌, ◌++◌, length, drop, take, Option, Some, None, Result, Ok, Err, refl, sym, ◌∙◌, ap, subst, arith, append_assoc}
 use Rattle.std.proofs.lemmas.List.{length-drop}
+use Rattle.js_value.specs.Text.{parts, sequence_length}
 use Rattle.es_model.specs.declared.faults.LexFault.{LexFault}
-use Rattle.es_model.specs.declared.faults.LexFault.TheVariants.{OpenTemplate}
+use Rattle.es_model.specs.declared.faults.LexFault.TheVariants.{OpenTemplate, NotUtf8}
 use Rattle.es_model.specs.declared.token.Token.{Token}
 use Rattle.es_model.specs.declared.token.TokenKind.{TokenKind}
 use Rattle.es_model.specs.declared.token.TokenKind.TheVariants as k
@@ -155,3 +156,13 @@ open_read braces line left begun h e = end_read braces line left h ∙ ap (ended
 
 pub last_read : (braces : List Brace) (line : Bool) (left : Left) → None ≡ first_of left.text → None ≡ innermost braces → tokens_left line braces left ≡ Ok (record { kind = k.End; at = left.at; line_before = line } ∷ [])
 last_read braces line left h e = end_read braces line left h ∙ ap (ended line left.at) (sym e)
+
+-- the whole
+
+pub tokens-bad : (bytes : List ℕ) (at : ℕ) → Some at ≡ s.first_bad 0 (parts sequence_length bytes) → s.tokens_of bytes ≡ Err (NotUtf8 at)
+unfolding s.tokens_of
+tokens-bad bytes at h = ap (λ o. elim o as (λ _. Result (List Token) LexFault) [ Some at ↦ Err (NotUtf8 at) | None ↦ tokens_in false (parts_of 0 [] 0 (s.characters_of bytes)) ]) (sym h)
+
+pub tokens-good : (bytes : List ℕ) → None ≡ s.first_bad 0 (parts sequence_length bytes) → s.tokens_of bytes ≡ tokens_left false [] (record { at = 0; text = s.characters_of bytes })
+unfolding s.tokens_of
+tokens-good bytes h = ap (λ o. elim o as (λ _. Result (List Token) LexFault) [ Some at ↦ Err (NotUtf8 at) | None ↦ tokens_in false (parts_of 0 [] 0 (s.characters_of bytes)) ]) (sym h)

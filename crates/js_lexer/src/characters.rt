@@ -1,6 +1,6 @@
 //! A text in UTF-8, character by character.
 
-ghost use Rattle.std.specs.Prelude.{◌≡◌, ◌==◌, ◌+◌, ◌<◌, ◌^◌, [], ◌∷◌, length, MatchOption};
+ghost use Rattle.std.specs.Prelude.{◌≡◌, ◌==◌, ◌+◌, ◌<◌, ◌^◌, [], ◌∷◌, length, IfSome, MatchOption};
 ghost use Rattle.js_value.specs.Text.{parts, sequence_length};
 ghost use Rattle.es_model.specs.Tokens.{characters_of, first_bad, first_is, is_digit, width};
 ghost use Rattle.js_lexer.specs.Left.{IsUtf8, skip, first_of};
@@ -11,7 +11,8 @@ use std::marker::Model;
 
 /// The place of the first byte that belongs to no well-formed sequence.
 pub fn first_bad(text: &[u8]) -> Option<usize>
-    ensures { result ≡ first_bad 0 (parts sequence_length text.now) }
+    ensures place { result ≡ first_bad 0 (parts sequence_length text.now) }
+    ensures within { IfSome result (λ at. at < length text.now) }
 {
     let mut at = 0;
     let mut rest = text;

@@ -34,7 +34,7 @@ pub fn tokens(alloc: Global, text: &[u8]) -> Result<Tokens, LexFault>
 /// Adds all tokens of what is left of a text to an empty list.
 fn take_all(alloc: Global, text: Characters, tokens: &mut Tokens) -> Result<(), LexFault>
     requires { tokens.old ≡ [] }
-    ensures { Lists (tokens_in false (parts_of 0 [] text.at text.text)) result tokens.new }
+    ensures { Lists (tokens_in false (parts_of 0 [] text.entry.at text.entry.text)) result tokens.new }
 {
     let mut left = text;
     let mut braces = Braces::new(alloc);

@@ -22,7 +22,7 @@ loop-rest-preserved c =
       same = c.loop-rest.invariant.same ∙ first_bad-sequence c.loop-rest.at c.sequence_length-length.result c.loop-rest.rest.now (sym c.sequence_length-length.ensures.length) more c.sequence_length-length.ensures.within;
     })
 
-pub returns-then-length-eq1 : goal.returns-then-length-eq1
-returns-then-length-eq1 c =
+pub returns-then-length-eq1-clause-place : goal.returns-then-length-eq1-clause-place
+returns-then-length-eq1-clause-place c =
     let some : 0 < length c.loop-rest.rest.now = omega arith in
     sym (c.loop-rest.invariant.same ∙ first_bad-here c.loop-rest.at c.loop-rest.rest.now some c.if-byte-lt128.false (sym c.sequence_length-length.ensures.length ∙ c.if-length-eq1.true))
