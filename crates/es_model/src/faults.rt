@@ -1,3 +1,8 @@
+ghost use Rattle.std.specs.Prelude.{◌≡◌};
+ghost use Rattle.es_model.specs.declared.faults.LexFault.TheVariants.{Memory};
+
+use std::alloc::AllocError;
+
 /// Why a text is no list of tokens, with the place of the byte that it names, from 0.
 #[derive(Clone, Copy, Debug, PartialEq, Eq)]
 pub enum LexFault {
@@ -20,6 +25,14 @@ pub enum LexFault {
     NumberTooLarge(u32),
     /// Want of memory.
     Memory,
+}
+
+impl From<AllocError> for LexFault {
+    ghost from_gives = { λ _ fault. fault ≡ Memory };
+
+    fn from(_error: AllocError) -> LexFault {
+        LexFault::Memory
+    }
 }
 
 /// The first early rule that a module breaks (ECMA-262, 13 to 16, and the language's own rules),

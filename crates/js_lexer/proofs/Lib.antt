@@ -1,0 +1,12 @@
+pub mod Utf8
+pub mod Lefts
+pub mod Blocks
+pub mod Digits
+pub mod Longest
+pub mod Quoted
+pub mod Escaped
+pub mod Named
+pub mod Answering
+pub mod Signs
+pub mod Passing
+pub mod Standing

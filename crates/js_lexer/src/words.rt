@@ -1,0 +1,108 @@
+//! Names, keywords and signs (ECMA-262, 12.7 and 12.8).
+
+ghost use Rattle.std.specs.Prelude.{◌≡◌, ◌<◌, ◌≤◌, ◌∷◌, ◌++◌, MatchOption, OnOk};
+ghost use Rattle.js_value.specs.Text.{utf16};
+ghost use Rattle.es_model.specs.Tokens.{name_element, sign_element};
+ghost use Rattle.js_lexer.specs.Reads.{Finds, Reads, found, sign, word_of};
+
+use crate::characters::Characters;
+use crate::classes::is_name_part;
+use crate::elements::Found;
+use es_model::{LexFault, TokenKind, keyword, sign};
+use js_value::Units;
+use std::alloc::{AllocError, Global};
+
+/// The length of the longest sign.
+const LONGEST: usize = 4;
+
+/// Takes a name or a keyword, after its first character.
+pub fn take_name(alloc: Global, first: char, left: &mut Characters) -> Result<Found, LexFault>
+    ensures { Reads (found (name_element first left.old.text) left.old) result left.new }
+{
+    let mut text = Units::new(alloc);
+    push_character(&mut text, first)?;
+    while let Some(c) = left.first() {
+        if !is_name_part(c) {
+            break;
+        }
+        push_character(&mut text, c)?;
+        left.next();
+    }
+    Ok(Found::Token(word(text)))
+}
+
+/// The token of a word.
+fn word(text: Units) -> TokenKind
+    ensures { result ≡ word_of text }
+{
+    match keyword(text.as_slice()) {
+        Some(place) => TokenKind::Keyword(place),
+        None => TokenKind::Name(text),
+    }
+}
+
+/// Adds the units of a character (ECMA-262, 11.1.1).
+pub fn push_character(text: &mut Units, c: char) -> Result<(), AllocError>
+    ensures { OnOk result (text.new ≡ text.old ++ utf16 c) }
+{
+    push_code_point(text, c as u32)
+}
+
+/// Adds the units of a code point (ECMA-262, 11.1.1).
+pub fn push_code_point(text: &mut Units, code_point: u32) -> Result<(), AllocError>
+    requires { code_point < 0x200000 }
+    ensures { OnOk result (text.new ≡ text.old ++ utf16 code_point) }
+{
+    if code_point < 0x10000 {
+        return text.push(code_point as u16);
+    }
+    let above = code_point - 0x10000;
+    text.push((0xD800 + above / 0x400) as u16)?;
+    text.push((0xDC00 + above % 0x400) as u16)
+}
+
+/// Takes a sign, after its first character, which stands at `at`.
+pub fn take_sign(at: u32, first: char, left: &mut Characters) -> Result<Found, LexFault>
+    ensures { Reads (found (sign_element at (first ∷ left.old.text)) left.old) result left.new }
+{
+    match longest_sign(first, left) {
+        Some(place) => Ok(Found::Token(TokenKind::Sign(place))),
+        None => Err(LexFault::BadCharacter(at)),
+    }
+}
+
+/// The place of the longest sign in the list of signs. Each front of a sign is a sign too, so that a longer
+/// one is looked for only behind a shorter one.
+fn longest_sign(first: char, left: &mut Characters) -> Option<u8>
+    ensures { Finds (sign first left.old) result left.new }
+{
+    let mut units = [ascii(first)?; LONGEST];
+    let mut longest = sign(&units[..1])?;
+    let mut length = 1;
+    while length < LONGEST {
+        let Some(next) = left.first() else {
+            break;
+        };
+        let Some(unit) = ascii(next) else {
+            break;
+        };
+        units[length] = unit;
+        let Some(longer) = sign(&units[..length + 1]) else {
+            break;
+        };
+        longest = longer;
+        length += 1;
+        left.next();
+    }
+    Some(longest)
+}
+
+/// The unit of an ASCII character.
+fn ascii(c: char) -> Option<u16>
+    ensures { MatchOption result (128 ≤ c) (λ unit. unit ≡ c) }
+{
+    if c as u32 >= 128 {
+        return None;
+    }
+    Some(c as u16)
+}
