@@ -1,6 +1,6 @@
 //! The pass over a text.
 
-ghost use Rattle.std.specs.Prelude.{◌≡◌, [], false};
+ghost use Rattle.std.specs.Prelude.{◌≡◌, ◌≤◌, [], false, length};
 ghost use Rattle.es_model.specs.Tokens.{tokens_of, tokens_in, parts_of};
 ghost use Rattle.js_lexer.specs.Reads.{Answers, Lists};
 
@@ -10,19 +10,17 @@ use crate::elements::{Found, take_element};
 use es_model::{LexFault, Token, TokenKind, Tokens};
 use std::alloc::Global;
 
-/// The tokens of a text in their order, `End` last, or the fault that is met first; places count bytes, from 0.
-/// A text that isn't UTF-8 is that before all else. Its keywords and signs are numbered as es_model's lists
-/// have them, and its names, strings and templates are units. The answer `Memory` comes where memory is refused,
-/// and for a text of 4 GiB or more, which has places that no token can hold.
+/// The tokens of a text of at most 268,435,456 bytes in their order, `End` last, or the fault that is met
+/// first; places count bytes, from 0. A text that isn't UTF-8 is that before all else. Its keywords and signs
+/// are numbered as es_model's lists have them, and its names, strings and templates are units. The answer
+/// `Memory` comes where memory is refused.
 ///
 /// It reads each byte a constant number of times. It takes memory for each token, for the text of each name,
 /// string and template, and for each brace that is open.
 pub fn tokens(alloc: Global, text: &[u8]) -> Result<Tokens, LexFault>
+    requires { length text.now ≤ 268435456 }
     ensures { Answers (tokens_of text.now) result }
 {
-    if text.len() > u32::MAX as usize {
-        return Err(LexFault::Memory);
-    }
     if let Some(at) = first_bad(text) {
         return Err(LexFault::NotUtf8(at as u32));
     }
