@@ -1,5 +1,5 @@
 -- The two counts of a tree together, as one pass over it finds them: each stands still at 4294967295.
-use Rattle.std.specs.Prelude.{ℕ, suc, ◌+◌, max, min, Bool, true, false}
+use Rattle.std.specs.Prelude.{suc, ◌+◌, max, min, Bool, true, false}
 use Rattle.es_model.specs.declared.measure.Counts.{Counts}
 use Rattle.es_model.specs.Tree as t
 use Rattle.es_model.specs.Tree.{Tree}

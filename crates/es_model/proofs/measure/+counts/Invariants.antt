@@ -1,4 +1,4 @@
-use Rattle.std.proofs.Common.{◌≡◌, ℕ, ◌+◌, ◌*◌, map, take}
+use Rattle.std.proofs.Common.{◌≡◌, ◌+◌, ◌*◌, map, take}
 use Rattle.es_model.specs.Tree.{listed, tree_size}
 use Rattle.es_model.specs.Counted.{counted}
 use Rattle.es_model.specs.View.{expression_of, statement_of, optional, optional_list, optional_function, function_of, class_of, member_of, key_of, head_of, declarator_of, case_of}

@@ -1,4 +1,4 @@
-use Rattle.std.proofs.Common.{◌≡◌, ℕ, map, take}
+use Rattle.std.proofs.Common.{◌≡◌, map, take}
 use Rattle.es_model.specs.Tree.{listed}
 use Rattle.es_model.specs.Counted.{counted}
 use Rattle.es_model.specs.ModuleView.{item_of}
