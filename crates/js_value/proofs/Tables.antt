@@ -45,6 +45,17 @@ module _ (bytes : List ℕ) (n : ℕ) (some : 0 < length bytes) (cut : sequence_
   pub cut_decided : (text : List ℕ) (order : Ordering) → IsDecided (utf16 (scalar_value (take n bytes))) text order → order ≡ compared (units bytes) text
   cut_decided text order h = sym (h (units (drop n bytes))) ∙ ap (λ t. compared t text) (sym (units-split bytes n some cut))
 
+-- the same where the first byte is a unit
+
+pub ascii_same : (bytes : List ℕ) → 0 < length bytes → get_or bytes 0 0 < 128 → (text rest : List ℕ) → text ≡ get_or bytes 0 0 ∷ rest → compared (units (drop 1 bytes)) rest ≡ compared (units bytes) text
+ascii_same [] some low text rest e = absurd (omega arith)
+ascii_same (x ∷ after) some low text rest e =
+    sym (same_front (x ∷ []) (units after) rest) ∙ ap₂ compared (sym (units-ascii_cons x after low)) (sym e)
+
+pub ascii_decided : (bytes : List ℕ) → 0 < length bytes → get_or bytes 0 0 < 128 → (text : List ℕ) (order : Ordering) → IsDecided (get_or bytes 0 0 ∷ []) text order → order ≡ compared (units bytes) text
+ascii_decided [] some low text order h = absurd (omega arith)
+ascii_decided (x ∷ after) some low text order h = sym (h (units after)) ∙ ap (λ t. compared t text) (sym (units-ascii_cons x after low))
+
 pub key_ended : (text : List ℕ) → nat_cmp 0 (length text) ≡ compared (units []) text
 key_ended [] = ap (λ t. compared t []) (sym units-none)
 key_ended (x ∷ text) =

@@ -58,13 +58,21 @@ impl<const N: usize, K: AsStr + Copy> Case<N, K> {
     }
 }
 
-// By the first unit in which a key differs from a text, else by their lengths.
+// By the first unit in which a key differs from a text, else by their lengths. A byte below 0x80 is a unit.
 fn order(key: &str, text: &[u16]) -> Ordering
     ensures { result ≡ slice_cmp nat_cmp (units key.now) text.now }
 {
     let mut key_left = key.as_bytes();
     let mut text_left = text;
-    while !key_left.is_empty() {
+    while let [byte, behind @ ..] = key_left {
+        if *byte < 0x80 {
+            match cut_unit(u16::from(*byte), text_left) {
+                Ok(rest) => text_left = rest,
+                Err(order) => return order,
+            }
+            key_left = behind;
+            continue;
+        }
         let (sequence, after) = key_left.split_at(sequence_length(key_left));
         match cut_code_point(scalar_value(sequence), text_left) {
             Ok(rest) => text_left = rest,
