@@ -1,8 +1,9 @@
--- Where all that is spoken of stands, the store speaks of things alone that are in it.
-use Rattle.std.proofs.Common.{◌≡◌, ℕ, suc, zero, ◌<◌, Bool, true, false, cond, List, [], ◌∷◌, length, get_or, map, refl, ap, arith, Option, Some, None}
+-- Where all that is spoken of stands and units have 16 bits, the store's values are of the language, and it speaks of
+-- things alone that are in it.
+use Rattle.std.proofs.Common.{◌≡◌, ℕ, suc, zero, ◌<◌, Bool, true, false, cond, List, [], ◌∷◌, length, get_or, take, drop, map, refl, ap, arith, Option, Some, None}
 use Rattle.std.specs.List.{All, slice_get}
 use Rattle.std.specs.Prelude.{IsTrue, ◌==◌}
-use Rattle.std.proofs.lemmas.List.{length-map}
+use Rattle.std.proofs.lemmas.List.{length-map, length-take, length-drop}
 use Rattle.std.proofs.lemmas.List.Elements.{All-head, All-tail, All-nil, All-cons}
 use Rattle.slot_heap.specs.declared.slot.Slot.{Slot}
 use Rattle.slot_heap.specs.declared.slot.Value.{Value as Low_Value}
@@ -10,6 +11,7 @@ use Rattle.slot_heap.specs.declared.slot.Value.TheVariants as low
 use Rattle.slot_heap.specs.Slot.{blank, is_object_kind, value_in}
 use Rattle.slot_heap.specs.Shown.{shown}
 use Rattle.slot_heap.specs.Held.{Held}
+use Rattle.slot_heap.specs.Texts.{text_of}
 use Rattle.slot_heap.specs.Reading.{Reading, number_in, word_in, object_or, value_of, bit, upper, lower, is_accessor, is_indexed, content_in, property_in, put_if, named_in, indexed_in, or_zero, number_by, captured_in, parts_in, reactions_in, state_in, built_in, home_in, class_in, object_record, initialised, thing_of}
 use Rattle.slot_heap.specs.Flat.{reading, flat}
 use Rattle.slot_heap.specs.Standing.{RefStands, ValueStands, has_name, CellStands, Standing}
@@ -19,9 +21,29 @@ use Rattle.slot_heap.proofs.Growth.{parts_stand, one_stands}
 use Rattle.slot_heap.proofs.Things.{shown_stands, flat_length}
 use Rattle.js_value.specs.Value.{Value, Undefined, Null}
 use Rattle.js_value.specs.Store.{Store, Data, Accessor, Property, Pending, Fulfilled, Rejected, Class, Thing, AnObject, ACell, AMark, as_object, as_cell, object_in, cell_in}
+use Rattle.js_value.specs.Order.{AreUnits, IsString}
 use Rattle.js_value.specs.WellFormed.{IsValueBelow, IfValueBelow, IfNumberBelow, AreNumbersBelow, IsContentBelow, ArePropertiesBelow, IsStateBelow, AreReactionsBelow, IsClassBelow, IsObjectBelow, IsThingBelow}
 
-module _ (h : Held) (m : ℕ) (many : m ≡ length (reading h).heads) (some : 0 < m) where
+-- ---- a text of units that have 16 bits is a String
+
+units_drop : (n : ℕ) (us : List ℕ) → AreUnits us → AreUnits (drop n us)
+units_drop zero us u = u
+units_drop (suc n) [] u = tt
+units_drop (suc n) (x ∷ us) u = units_drop n us u.1
+
+units_take : (n : ℕ) (us : List ℕ) → AreUnits us → AreUnits (take n us)
+units_take zero us u = tt
+units_take (suc n) [] u = tt
+units_take (suc n) (x ∷ us) u = (u.0, units_take n us u.1)
+
+text_is_string : (us : List ℕ) → IsString us → (p : ℕ × ℕ) → IsString (text_of us p)
+unfolding text_of
+text_is_string us s p = record {
+  units = units_take p.1 (drop p.0 us) (units_drop p.0 us s.units);
+  bound = omega (arith, s.bound, length-take p.1 (drop p.0 us), length-drop p.0 us);
+}
+
+module _ (h : Held) (words : IsString h.words.units) (m : ℕ) (many : m ≡ length (reading h).heads) (some : 0 < m) where
   abbrev r : Reading
   r = reading h
 
@@ -34,13 +56,13 @@ module _ (h : Held) (m : ℕ) (many : m ≡ length (reading h).heads) (some : 0 
   object_below v (Some n) b c = c
 
   value_below : (v : Low_Value) → ValueStands h v → IsValueBelow m (value_of r v)
-  unfolding value_of
+  unfolding value_of reading
   value_below low.Undefined s = tt
   value_below low.Null s = tt
   value_below (low.Bool b) s = tt
-  value_below (low.Number n) s = tt
-  value_below (low.Name n) s = tt
-  value_below (low.Text at count) s = tt
+  value_below (low.Number n) s = s
+  value_below (low.Name n) s = text_is_string h.words.units words (get_or h.words.names n (0, 0))
+  value_below (low.Text at count) s = text_is_string h.words.units words (at, count)
   value_below (low.Thing a) s = object_below Null (number_in r a.0) tt (number_below a.0 s)
 
   zero_below : (n : Option ℕ) → IfNumberBelow m n → or_zero n < m
@@ -154,16 +176,16 @@ module _ (h : Held) (m : ℕ) (many : m ≡ length (reading h).heads) (some : 0 
       by true e = record_below c cs e (All-head (CellStands h) c cs s) (All-tail (CellStands h) c cs s)
       by false e = cell_or (c.kind == 7)
 
-things_below : (h : Held) (m : ℕ) → m ≡ length (reading h).heads → (ps : List (ℕ × List Slot)) → (0 < length ps → 0 < m) → All (λ p. All (CellStands h) p.1) ps → All (IsThingBelow m) (map (λ p. thing_of (reading h) p.1) ps)
-things_below h m e [] l s = All-nil _
-things_below h m e (p ∷ ps) l s =
-    All-cons (IsThingBelow m) _ _ (thing_below h m e (l (omega arith)) p.1 (All-head (λ q. All (CellStands h) q.1) p ps s)) (things_below h m e ps (λ k. l (omega arith)) (All-tail (λ q. All (CellStands h) q.1) p ps s))
+things_below : (h : Held) → IsString h.words.units → (m : ℕ) → m ≡ length (reading h).heads → (ps : List (ℕ × List Slot)) → (0 < length ps → 0 < m) → All (λ p. All (CellStands h) p.1) ps → All (IsThingBelow m) (map (λ p. thing_of (reading h) p.1) ps)
+things_below h w m e [] l s = All-nil _
+things_below h w m e (p ∷ ps) l s =
+    All-cons (IsThingBelow m) _ _ (thing_below h w m e (l (omega arith)) p.1 (All-head (λ q. All (CellStands h) q.1) p ps s)) (things_below h w m e ps (λ k. l (omega arith)) (All-tail (λ q. All (CellStands h) q.1) p ps s))
 
-pub all_below : (h : Held) → Standing h → All (IsThingBelow (length (flat h))) (flat h)
+pub all_below : (h : Held) → IsString h.words.units → Standing h → All (IsThingBelow (length (flat h))) (flat h)
 unfolding flat
-all_below h s =
+all_below h w s =
     let n = length-map (shown h.slots) (λ p. thing_of (reading h) p.1) in
-    things_below h (length (flat h)) (flat_length h) (shown h.slots) (λ l. omega arith) (shown_stands h s)
+    things_below h w (length (flat h)) (flat_length h) (shown h.slots) (λ l. omega arith) (shown_stands h s)
 
 get_below : (s : Store) (m n : ℕ) → All (IsThingBelow m) s → IsObjectBelow m (as_object (slice_get s n)) × IfValueBelow m (as_cell (slice_get s n)).value
 get_below [] m n a = (record { class = tt; prototype = tt; indexed = tt; named = tt }, tt)
@@ -176,10 +198,10 @@ get_below (t ∷ s) m zero a = of t (All-head (IsThingBelow m) t s a)
 get_below (t ∷ s) m (suc n) a = get_below s m n (All-tail (IsThingBelow m) t s a)
 
 -- each thing that an object or a cell of the store speaks of is in the store
-pub objects_exist : (h : Held) → Standing h → (n : ℕ) → IsObjectBelow (length (flat h)) (object_in (flat h) n)
+pub objects_exist : (h : Held) → IsString h.words.units → Standing h → (n : ℕ) → IsObjectBelow (length (flat h)) (object_in (flat h) n)
 unfolding object_in
-objects_exist h s n = (get_below (flat h) (length (flat h)) n (all_below h s)).0
+objects_exist h w s n = (get_below (flat h) (length (flat h)) n (all_below h w s)).0
 
-pub values_exist : (h : Held) → Standing h → (n : ℕ) → IfValueBelow (length (flat h)) (cell_in (flat h) n).value
+pub values_exist : (h : Held) → IsString h.words.units → Standing h → (n : ℕ) → IfValueBelow (length (flat h)) (cell_in (flat h) n).value
 unfolding cell_in
-values_exist h s n = (get_below (flat h) (length (flat h)) n (all_below h s)).1
+values_exist h w s n = (get_below (flat h) (length (flat h)) n (all_below h w s)).1

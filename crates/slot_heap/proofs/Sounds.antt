@@ -25,7 +25,7 @@ use Rattle.js_value.specs.WellFormed.{Ended, Next, IsWellFormed}
 empty_store : IsWellFormed []
 unfolding object_in cell_in
 empty_store = record {
-  orderly = λ n. record { indices = tt; range = tt; length = tt; names = tt; no_index = tt; no_length = tt };
+  orderly = λ n. record { indices = tt; range = tt; length = tt; names = tt; distinct = tt; no_length = tt };
   objects = λ n. record { class = tt; prototype = tt; indexed = tt; named = tt };
   cells = λ n. tt;
   chains = λ n. Next n Ended;

@@ -37,7 +37,7 @@ module _ (h h' : Held) (g : Stays h h') where
   value_stays Undefined s = tt
   value_stays Null s = tt
   value_stays (OfBool b) s = tt
-  value_stays (Number n) s = tt
+  value_stays (Number n) s = s
   value_stays (Name n) s = name_stays n s
   value_stays (Text at count) s = within_stays (at, count) s
   value_stays (Thing a) s = ref_stays a.0 s

@@ -5,7 +5,8 @@ use Rattle.std.specs.List.{All}
 use Rattle.slot_heap.specs.declared.slot.Slot.{Slot}
 use Rattle.slot_heap.specs.declared.slot.Job.{Job}
 use Rattle.slot_heap.specs.declared.slot.Value.{Value}
-use Rattle.slot_heap.specs.declared.slot.Value.TheVariants.{Name, Text, Thing}
+use Rattle.slot_heap.specs.declared.slot.Value.TheVariants.{Number, Name, Text, Thing}
+use Rattle.js_value.specs.Number.{IsNumber}
 use Rattle.slot_heap.specs.Slot.{is_object_kind, tag_of, value_in}
 use Rattle.slot_heap.specs.Shown.{is_thing, cells}
 use Rattle.slot_heap.specs.Texts.{Within}
@@ -17,7 +18,9 @@ abbrev pub RefStands : Held → ℕ → Type 0
 RefStands h zero = Unit {0}
 RefStands h (suc i) = IsTrue (is_thing h.slots (suc i))
 
+-- what a value speaks of stands, and a Number is one of the language
 abbrev pub ValueStands : Held → Value → Type 0
+ValueStands h (Number n) = IsNumber n
 ValueStands h (Name n) = n < length h.words.names
 ValueStands h (Text at count) = Within h.words.units (at, count)
 ValueStands h (Thing a) = RefStands h a.0
