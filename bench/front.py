@@ -9,8 +9,6 @@ import time
 
 PART = """\
 // Part {n}: a counter, in the usual style of a module.
-import {{ print }} from "host";
-
 const step{n} = 0x{n:x};
 
 class Counter{n} extends Base {{
@@ -43,7 +41,7 @@ export function sum{n}(values) {{
 
 
 def module(size):
-    parts, length, n = [], 0, 0
+    parts, length, n = ['import { Base } from "base";\n\n'], 0, 0
     while length < size:
         part = PART.format(n=n)
         parts.append(part)
