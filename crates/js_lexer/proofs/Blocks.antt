@@ -60,6 +60,7 @@ comment-more left c h e = by_text left.at left.text h e
     by_end : (at : ℕ) (cs : List ℕ) (end : Option ℕ) → commented at (c ∷ cs) (ended false end) ≡ option_map (lined (s.is_line_break c)) (commented (at + width c) cs end)
     by_end at cs None = refl
     by_end at cs (Some n) = refl
+
     by_text : (at : ℕ) (text : List ℕ) → Some c ≡ first_of text → ends_here c (skip 1 (record { at = at; text = text })) ≡ false → comment (record { at = at; text = text }) ≡ option_map (lined (s.is_line_break c)) (comment (skip 1 (record { at = at; text = text })))
     by_text at [] h e = absurd (cc h)
     by_text at (x ∷ cs) h e =

@@ -49,6 +49,7 @@ escape-x left c h is = by_first (λ old new. escape old ≡ option_map (λ f. (f
     by_digits : (b : Bool) (at : ℕ) (cs : List ℕ) → landed at (c ∷ cs) (elim b [ true ↦ Some (s.number_after 0 16 (take 2 cs) ∷ [], suc 2) | false ↦ None ]) ≡ option_map (λ f. (f.0 ∷ [], f.1)) (elim b as (λ _. Option (ℕ × Left)) [ true ↦ Some (s.number_after 0 16 (take 2 cs), skipped 2 (at + width c) cs) | false ↦ None ])
     by_digits true at cs = refl
     by_digits false at cs = refl
+
     each : (at : ℕ) (cs : List ℕ) → escape (record { at = at; text = c ∷ cs }) ≡ option_map (λ f. (f.0 ∷ [], f.1)) (hexadecimal 2 (record { at = at + width c; text = cs }))
     each at cs =
         let test : (c == 120) ≡ true = grind (arith, nat_tests) in
@@ -68,6 +69,7 @@ hexadecimal-none left h = by_text left.at left.text h
     by_tests true true z w v v' l l' e = absurd (cc e)
     by_tests true false z w v v' l l' e = refl
     by_tests false y z w v v' l l' e = refl
+
     by_text : (at : ℕ) (text : List ℕ) → hexadecimal 2 (record { at = at; text = text }) ≡ None → hexadecimal 4 (record { at = at; text = text }) ≡ None
     by_text at [] e = refl
     by_text at (a ∷ []) e = refl
@@ -109,6 +111,7 @@ hexadecimal-joined left mid high h = by_text left.at left.text h
         subst P (found_same (s.number_after 0 16 (a ∷ b ∷ []), record { at = at + width a + width b; text = text }) (high, mid) e) (behind_two at a b text x y)
     by_tests true false at a b text x y e = absurd (cc e)
     by_tests false y at a b text x z e = absurd (cc e)
+
     by_text : (at : ℕ) (text : List ℕ) → hexadecimal 2 (record { at = at; text = text }) ≡ Some (high, mid) → hexadecimal 4 (record { at = at; text = text }) ≡ option_map (joined high) (hexadecimal 2 mid)
     by_text at [] e = absurd (cc e)
     by_text at (a ∷ []) e = absurd (cc e)
@@ -187,10 +190,13 @@ four_small at (a ∷ b ∷ c ∷ d ∷ cs) value rest h = by_tests (s.is_digit_o
   where
     small : (x y z w : ℕ) → x < 16 → y < 16 → z < 16 → w < 16 → (((0 * 16 + x) * 16 + y) * 16 + z) * 16 + w < 0x10000
     small x y z w a b c d = omega arith
+
     below : (v : ℕ) → nat_lt v 16 ≡ true → v < 16
     below v e = grind (arith, nat_tests)
+
     digit : (x : ℕ) → s.is_digit_of 16 x ≡ true → s.digit_value x < 16
     digit x e = below (s.digit_value x) e
+
     by_tests : (x y z w : Bool) → s.is_digit_of 16 a ≡ x → s.is_digit_of 16 b ≡ y → s.is_digit_of 16 c ≡ z → s.is_digit_of 16 d ≡ w → elim (x && (y && (z && (w && true)))) as (λ _. Option (ℕ × Left)) [ true ↦ Some (s.number_after 0 16 (a ∷ b ∷ c ∷ d ∷ []), skipped 4 at (a ∷ b ∷ c ∷ d ∷ cs)) | false ↦ None ] ≡ Some (value, rest) → value < 0x10000
     by_tests true true true true x y z w e =
         let is : s.number_after 0 16 (a ∷ b ∷ c ∷ d ∷ []) ≡ value = ap (λ p. p.0) (found_same (s.number_after 0 16 (a ∷ b ∷ c ∷ d ∷ []), skipped 4 at (a ∷ b ∷ c ∷ d ∷ cs)) (value, rest) e) in
@@ -212,15 +218,19 @@ escape-u left c h is = by_first (λ old new. escape old ≡ option_map spelled (
         let hex : hexadecimal 4 (record { at = at + width c; text = cs }) ≡ Some (s.number_after 0 16 (take 4 cs), skipped 4 (at + width c) cs) = ap (λ b. elim b as (λ _. Option (ℕ × Left)) [ true ↦ Some (s.number_after 0 16 (take 4 cs), skipped 4 (at + width c) cs) | false ↦ None ]) e in
         ap (λ l. Some (l, skipped 4 (at + width c) cs)) (sym (single (s.number_after 0 16 (take 4 cs)) (four_small (at + width c) cs (s.number_after 0 16 (take 4 cs)) (skipped 4 (at + width c) cs) hex)))
     digits at cs false e = refl
+
     past : (at n x : ℕ) (cs : List ℕ) → skipped (n + 3) at (c ∷ x ∷ cs) ≡ skipped (n + 1) (at + width c + width x) cs
     past at n x cs = let e : n + 3 ≡ suc (suc (n + 1)) = omega arith in ap (λ m. skipped m at (c ∷ x ∷ cs)) e
+
     inside : (at x : ℕ) (cs : List ℕ) (t : Bool) → landed at (c ∷ x ∷ cs) (elim t [ true ↦ Some (utf16 (s.number_after 0 16 (take_while (s.is_digit_of 16) cs)), length (take_while (s.is_digit_of 16) cs) + 3) | false ↦ None ]) ≡ option_map spelled (braced t (record { at = at + width c + width x; text = cs }))
     inside at x cs true = ap (λ l. Some (utf16 (s.number_after 0 16 (take_while (s.is_digit_of 16) cs)), l)) (past at (length (take_while (s.is_digit_of 16) cs)) x cs)
     inside at x cs false = refl
+
     braces : (at : ℕ) (cs : List ℕ) (b : Bool) → s.first_is (λ d. d == 123) cs ≡ b → landed at (c ∷ cs) (elim b [ true ↦ s.code_point_escape (s.behind cs) | false ↦ s.hexadecimal_escape 4 cs ]) ≡ option_map spelled (elim b as (λ _. Option (ℕ × Left)) [ true ↦ code_point (skipped 1 (at + width c) cs) | false ↦ hexadecimal 4 (record { at = at + width c; text = cs }) ])
     braces at cs false e = digits at cs (s.hexadecimal 4 cs) refl
     braces at [] true e = absurd (cc e)
     braces at (x ∷ cs) true e = inside at x cs (test_of (record { at = at + width c + width x; text = cs }))
+
     each : (at : ℕ) (cs : List ℕ) → escape (record { at = at; text = c ∷ cs }) ≡ option_map spelled (unicode (record { at = at + width c; text = cs }))
     each at cs =
         let no : (c == 120) ≡ false = grind (arith, nat_tests) in
@@ -245,12 +255,15 @@ escape-plain left c h x u is = by_first (λ old new. escape old ≡ plain c new)
     feed true breaks at cs e = refl
     feed false true at cs e = refl
     feed false false at cs e = refl
+
     zeroed : (b : Bool) (at : ℕ) (cs : List ℕ) → landed at (c ∷ cs) (elim b as (λ _. Option (List ℕ × ℕ)) [ true ↦ Some (0 ∷ [], 1) | false ↦ None ]) ≡ elim b as (λ _. Option (List ℕ × Left)) [ true ↦ Some (0 ∷ [], record { at = at + width c; text = cs }) | false ↦ None ]
     zeroed true at cs = refl
     zeroed false at cs = refl
+
     by_digit : (b : Bool) (at : ℕ) (cs : List ℕ) → landed at (c ∷ cs) (elim b as (λ _. Option (List ℕ × ℕ)) [ true ↦ elim ((c == 48) && not (s.first_is s.is_digit cs)) [ true ↦ Some (0 ∷ [], 1) | false ↦ None ] | false ↦ elim ((c == 13) && s.first_is (λ d. d == 10) cs) [ true ↦ Some ([], 2) | false ↦ elim (s.is_line_break c) [ true ↦ Some ([], 1) | false ↦ Some (utf16 c, 1) ] ] ]) ≡ elim b as (λ _. Option (List ℕ × Left)) [ true ↦ elim ((c == 48) && not (s.first_is s.is_digit cs)) [ true ↦ Some (0 ∷ [], record { at = at + width c; text = cs }) | false ↦ None ] | false ↦ elim ((c == 13) && s.first_is (λ d. d == 10) cs) [ true ↦ Some ([], skipped 1 (at + width c) cs) | false ↦ elim (s.is_line_break c) [ true ↦ Some ([], record { at = at + width c; text = cs }) | false ↦ Some (utf16 c, record { at = at + width c; text = cs }) ] ] ]
     by_digit true at cs = zeroed ((c == 48) && not (s.first_is s.is_digit cs)) at cs
     by_digit false at cs = feed ((c == 13) && s.first_is (λ d. d == 10) cs) (s.is_line_break c) at cs (λ e. e)
+
     each : (at : ℕ) (cs : List ℕ) → escape (record { at = at; text = c ∷ cs }) ≡ plain c (record { at = at + width c; text = cs })
     each at cs =
         let no : (c == 120) ≡ false = grind (arith, nat_tests) in

@@ -95,6 +95,7 @@ longest_found n (row ∷ rows) text k size h = by_test (begins row text) (longes
   where
     past : IsFound (suc n) rows text size → IsFound n (row ∷ rows) text size
     past f = record { row = found_later n row rows (take size text) f.row; within = f.within }
+
     here : begins row text ≡ true → length row ≡ size → IsFound n (row ∷ rows) text size
     here b e =
         let front = begins_take row text b in
@@ -102,12 +103,15 @@ longest_found n (row ∷ rows) text k size h = by_test (begins row text) (longes
           row = ap is_some (found_here n row rows (take size text) (sym (ap (λ m. take m text) (sym e) ∙ front.0)));
           within = omega (arith, front.1);
         }
+
     by_size : (b : Bool) (m other : ℕ) → (longest_from (suc n) rows text ≡ Some (k, size) → IsFound (suc n) rows text size) → begins row text ≡ true → longest_from (suc n) rows text ≡ Some (m, other) → elim b as (λ _. Option (ℕ × ℕ)) [ true ↦ Some (m, other) | false ↦ Some (n, length row) ] ≡ Some (k, size) → IsFound n (row ∷ rows) text size
     by_size true m other later is r e = past (later (r ∙ e))
     by_size false m other later is r e = here is (same_size n (length row) k size e)
+
     by_rest : (r : Option (ℕ × ℕ)) → (longest_from (suc n) rows text ≡ Some (k, size) → IsFound (suc n) rows text size) → begins row text ≡ true → longest_from (suc n) rows text ≡ r → longer n (length row) r ≡ Some (k, size) → IsFound n (row ∷ rows) text size
     by_rest None later is r e = here is (same_size n (length row) k size e)
     by_rest (Some (m, other)) later is r e = by_size (nat_lt (length row) other) m other later is r e
+
     by_test : (b : Bool) → (longest_from (suc n) rows text ≡ Some (k, size) → IsFound (suc n) rows text size) → begins row text ≡ b → chosen b n (length row) (longest_from (suc n) rows text) ≡ Some (k, size) → IsFound n (row ∷ rows) text size
     by_test true later is e = by_rest (longest_from (suc n) rows text) later is refl e
     by_test false later is e = past (later e)
@@ -136,6 +140,7 @@ none_longest n rows text none empty = by_result (longest_from n rows text) refl
     by_found : (size : ℕ) → IsFound n rows text size → ⊥
     by_found zero f = let no : is_some (place_from n rows []) ≡ false = ap is_some empty in let never : false ≡ true = sym no ∙ f.row in absurd (cc never)
     by_found (suc size) f = let no : is_some (place_from n rows (take (suc size) text)) ≡ false = ap is_some (none (suc size) (omega arith) f.within) in let never : false ≡ true = sym no ∙ f.row in absurd (cc never)
+
     by_result : (r : Option (ℕ × ℕ)) → longest_from n rows text ≡ r → longest_from n rows text ≡ None
     by_result None e = e
     by_result (Some (k, size)) e = absurd (by_found size (longest_found n rows text k size e))
@@ -146,9 +151,11 @@ longest_from_is n (row ∷ rows) text m k short is none = by_test (begins row te
   where
     not_this : same_text row (take m text) ≡ false → place_from (suc n) rows (take m text) ≡ Some k
     not_this e = sym (ap (λ b. placed b n (place_from (suc n) rows (take m text))) e) ∙ is
+
     other_row : (b : Bool) → same_text row (take m text) ≡ b → (same_text row (take m text) ≡ true → ⊥) → same_text row (take m text) ≡ false
     other_row true e never = absurd (never e)
     other_row false e never = e
+
     by_size : (r : Option (ℕ × ℕ)) → longest_from (suc n) rows text ≡ r → length row ≡ m → n ≡ k → longer n (length row) r ≡ Some (k, m)
     by_size None e size place = ap (λ p. Some p) (ap (λ a. (a, length row)) place ∙ ap (λ a. (k, a)) size)
     by_size (Some (a, other)) e size place =
@@ -156,6 +163,7 @@ longest_from_is n (row ∷ rows) text m k short is none = by_test (begins row te
         let test : nat_lt (length row) other ≡ false = grind (arith, nat_tests) in
         ap (λ b. elim b as (λ _. Option (ℕ × ℕ)) [ true ↦ Some (a, other) | false ↦ Some (n, length row) ]) test
         ∙ ap (λ p. Some p) (ap (λ x. (x, length row)) place ∙ ap (λ x. (k, x)) size)
+
     begun : (place_from (suc n) rows (take m text) ≡ Some k → longest_from (suc n) rows text ≡ Some (k, m)) → begins row text ≡ true → longer n (length row) (longest_from (suc n) rows text) ≡ Some (k, m)
     begun later b =
         let front = begins_take row text b in
@@ -178,6 +186,7 @@ longest_from_is n (row ∷ rows) text m k short is none = by_test (begins row te
         by_size (longest_from (suc n) rows text) refl size place)
         (cases_lt m (length row)))
         (cases_lt (length row) m)
+
     by_test : (b : Bool) → (place_from (suc n) rows (take m text) ≡ Some k → longest_from (suc n) rows text ≡ Some (k, m)) → begins row text ≡ b → chosen b n (length row) (longest_from (suc n) rows text) ≡ Some (k, m)
     by_test true later e = begun later e
     by_test false later e = later (not_this (other_row (same_text row (take m text)) refl (λ same. let never : true ≡ false = sym (ap (λ l. begins l text) (same_true row (take m text) same) ∙ begins_front m text) ∙ e in absurd (cc never))))
@@ -221,6 +230,7 @@ no_longer text m some none (suc j) l h =
   where
     eq_or_le : (m j : ℕ) → m ≤ suc j → (m ≡ suc j) ⊎ (m ≤ j)
     eq_or_le m j l = ⊎_elim (λ (a : j < m). inl (omega arith)) (λ (b : m ≤ j). inr b) (cases_lt j m)
+
     by_sign : (r : Option ℕ) → 1 ≤ j → place_from 0 signs (take (suc j) text) ≡ r → place_from 0 signs (take j text) ≡ None → place_from 0 signs (take (suc j) text) ≡ None
     by_sign None two e before = e
     by_sign (Some k) two e before =

@@ -147,6 +147,7 @@ end_read braces line left h = by_text left.at left.text h
     by_innermost : (at : ℕ) (o : Option ℕ) → tokens_in line (record { at = at; element = elim o [ Some place ↦ Wrong (OpenTemplate place) | None ↦ Word k.End 0 ]; spelling = [] } ∷ []) ≡ ended line at o
     by_innermost at None = refl
     by_innermost at (Some place) = refl
+
     by_text : (at : ℕ) (text : List ℕ) → None ≡ first_of text → tokens_left line braces (record { at = at; text = text }) ≡ ended line at (innermost braces)
     by_text at [] h = by_innermost at (innermost braces)
     by_text at (c ∷ cs) h = absurd (cc h)

@@ -90,6 +90,7 @@ string-escapes quote begun left c units new h e b is =
   where
     one : width c ≡ 1
     one = width-1 c (omega arith)
+
     by_escape : (found : Option (List ℕ × ℕ)) → escaped (record { at = left.at + width c; text = (skip 1 left).text }) found ≡ Some (units, new) → string_left (record { at = left.at; text = c ∷ (skip 1 left).text }) (elim found [ Some (units, count) ↦ s.after units 1 (s.string_from quote count begun (left.at + 1) (skip 1 left).text) | None ↦ Err (BadEscape left.at) ]) ≡ put units (string quote begun new)
     by_escape None e = absurd (cc e)
     by_escape (Some (u, count)) e =
@@ -216,6 +217,7 @@ piece-escapes begun left c units new h b is =
   where
     one : width c ≡ 1
     one = width-1 c (omega arith)
+
     by_escape : (found : Option (List ℕ × ℕ)) → escaped (record { at = left.at + width c; text = (skip 1 left).text }) found ≡ Some (units, new) → piece_left (record { at = left.at; text = c ∷ (skip 1 left).text }) (elim found [ Some (units, count) ↦ s.after units 1 (s.template_from count begun (left.at + 1) (skip 1 left).text) | None ↦ Err (BadEscape left.at) ]) ≡ put_piece units (piece begun new)
     by_escape None e = absurd (cc e)
     by_escape (Some (u, count)) e =

@@ -80,6 +80,7 @@ block_found at left new line h e = by_text left.at left.text h e
     by_end : (place c : ℕ) (cs : List ℕ) (end : Option ℕ) → comment_by (place + width c) cs end ≡ Some (line, new) → found (commented at cs end) (record { at = place; text = c ∷ cs }) ≡ Ok (Gap line, new)
     by_end place c cs None e = absurd (cc e)
     by_end place c cs (Some n) e = ap (λ p. Ok (Gap p.0, p.1)) (comment_same (list_any s.is_line_break (take n cs), skipped n (place + width c) cs) (line, new) e)
+
     by_text : (place : ℕ) (text : List ℕ) → true ≡ s.first_is (λ d. d == 42) text → comment (skipped 1 place text) ≡ Some (line, new) → found (s.block_comment at (s.behind text)) (record { at = place; text = text }) ≡ Ok (Gap line, new)
     by_text place [] h e = absurd (cc h)
     by_text place (c ∷ cs) h e = by_end place c cs (s.comment_end cs) e
@@ -90,6 +91,7 @@ block_open at left h e = by_text left.at left.text h e
     by_end : (place c : ℕ) (cs : List ℕ) (end : Option ℕ) → comment_by (place + width c) cs end ≡ None → found (commented at cs end) (record { at = place; text = c ∷ cs }) ≡ Err (OpenComment at)
     by_end place c cs None e = refl
     by_end place c cs (Some n) e = absurd (cc e)
+
     by_text : (place : ℕ) (text : List ℕ) → true ≡ s.first_is (λ d. d == 42) text → comment (skipped 1 place text) ≡ None → found (s.block_comment at (s.behind text)) (record { at = place; text = text }) ≡ Err (OpenComment at)
     by_text place [] h e = absurd (cc h)
     by_text place (c ∷ cs) h e = by_end place c cs (s.comment_end cs) e

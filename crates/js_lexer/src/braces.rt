@@ -10,6 +10,7 @@ use std::marker::Model;
 
 /// The places of `{` and `}` in the list of signs.
 const OPENING: u8 = 0;
+
 const CLOSING: u8 = 1;
 
 /// An open brace: a plain one, or the `${` of a template whose backquote stands at a place.

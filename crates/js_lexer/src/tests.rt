@@ -107,7 +107,10 @@ fn gaps_and_words(rt: HostRuntime) -> Result<(), Fail> {
         ("a\u{301}", "Na<301>@0 E@3"),
         ("\u{301}", "BadCharacter(0)"),
         ("a.if", "Na@0 S8@1 K19@2 E@4"),
-        ("of get from as async", "Nof@0 Nget@3 Nfrom@7 Nas@12 Nasync@15 E@20"),
+        (
+            "of get from as async",
+            "Nof@0 Nget@3 Nfrom@7 Nas@12 Nasync@15 E@20",
+        ),
         ("yield await", "K45@0 K0@6 E@11"),
         ("#", "BadCharacter(0)"),
         ("a @", "BadCharacter(2)"),
@@ -145,7 +148,10 @@ fn signs_and_numbers(rt: HostRuntime) -> Result<(), Fail> {
         ("<\u{E9}", "S9@0 N<e9>@1 E@3"),
         ("0", "#0@0 E@1"),
         ("120", "#120@0 E@3"),
-        ("0xfF 0XFF 0o17 0O17 0b101 0B1", "#255@0 #255@5 #15@10 #15@15 #5@20 #1@26 E@29"),
+        (
+            "0xfF 0XFF 0o17 0O17 0b101 0B1",
+            "#255@0 #255@5 #15@10 #15@15 #5@20 #1@26 E@29",
+        ),
         ("9007199254740991", "#9007199254740991@0 E@16"),
         ("0x1fffffffffffff", "#9007199254740991@0 E@16"),
         ("1/2", "#1@0 S20@1 #2@2 E@3"),
@@ -187,8 +193,14 @@ fn strings_and_escapes(rt: HostRuntime) -> Result<(), Fail> {
         ("''", "Q@0 E@2"),
         ("\"\u{2028}\"", "Q<2028>@0 E@5"),
         ("\"\u{1F600}\"", "Q<d83d><de00>@0 E@6"),
-        ("'\\b\\t\\n\\v\\f\\r\\0\\q\\\\\\''", "Q<8><9><a><b><c><d><0>q\\'@0 E@22"),
-        ("'\\x41\\u0042\\u{43}\\u{1F600}\\u{000041}'", "QABC<d83d><de00>A@0 E@37"),
+        (
+            "'\\b\\t\\n\\v\\f\\r\\0\\q\\\\\\''",
+            "Q<8><9><a><b><c><d><0>q\\'@0 E@22",
+        ),
+        (
+            "'\\x41\\u0042\\u{43}\\u{1F600}\\u{000041}'",
+            "QABC<d83d><de00>A@0 E@37",
+        ),
         ("'\\uD800\\uDC00\\uDFFF'", "Q<d800><dc00><dfff>@0 E@20"),
         ("'\\u{D800}'", "Q<d800>@0 E@10"),
         ("'\\u{10FFFF}'", "Q<dbff><dfff>@0 E@12"),
@@ -286,11 +298,7 @@ fn count(alloc: Global, text: &[u8]) -> Option<usize> {
     }
 }
 
-fn push_often(
-    text: &mut Vec<u8>,
-    part: &[u8],
-    times: u32,
-) -> Result<(), AllocError> {
+fn push_often(text: &mut Vec<u8>, part: &[u8], times: u32) -> Result<(), AllocError> {
     for _ in 0..times {
         text.extend_from_slice(part)?;
     }
@@ -305,7 +313,10 @@ fn deep_and_long(rt: HostRuntime) -> Result<(), Fail> {
     push_often(&mut nested, b"}`", 100_000)?;
     let mut long = Vec::new(rt.alloc());
     push_often(&mut long, b"a = b + 1;\n", 100_000)?;
-    let counts = (count(rt.alloc(), nested.as_slice()), count(rt.alloc(), long.as_slice()));
+    let counts = (
+        count(rt.alloc(), nested.as_slice()),
+        count(rt.alloc(), long.as_slice()),
+    );
     assert_eq!(rt; open.as_str(), "OpenTemplate(299997)");
     assert_eq!(rt; counts, (Some(200_001), Some(600_001)));
     Ok(())

@@ -15,8 +15,8 @@ loop-c-preserved c =
     record {
       left = c.loop-c.invariant.left ∙ more.rest ∙ ap (behind (is_digit_of c.args.base)) (sym c.next.ensures.left);
       value =
-        c.loop-c.invariant.value
-        ∙ one_more c.args.base c.loop-c.value c.in-Some.c c.min-value.result _ _ c.requires.some
-        (more.taken ∙ ap (λ l. c.in-Some.c ∷ take_while (is_digit_of c.args.base) l.text) (sym c.next.ensures.left)) cut;
+          c.loop-c.invariant.value
+          ∙ one_more c.args.base c.loop-c.value c.in-Some.c c.min-value.result _ _ c.requires.some
+          (more.taken ∙ ap (λ l. c.in-Some.c ∷ take_while (is_digit_of c.args.base) l.text) (sym c.next.ensures.left)) cut;
       bound = omega (arith, cut);
     }

@@ -17,11 +17,11 @@ loop-c-preserved c =
     record {
       rest = c.loop-c.invariant.rest ∙ more.rest ∙ ap (behind is_name_part) (sym c.next.ensures.left);
       text =
-        c.loop-c.invariant.text
-        ∙ ap (λ l. c.loop-c.text ++ flat_map utf16 l) more.taken
-        ∙ sym (append_assoc c.loop-c.text (utf16 c.in-Some.c) (flat_map utf16 (take_while is_name_part (skip 1 c.loop-c.left).text)))
-        ∙ ap (λ t. t ++ flat_map utf16 (take_while is_name_part (skip 1 c.loop-c.left).text)) (sym c.in_ok-push_character-2.ensures)
-        ∙ ap (λ l. c.push_character-in-Some.new.text ++ flat_map utf16 (take_while is_name_part l.text)) (sym c.next.ensures.left);
+          c.loop-c.invariant.text
+          ∙ ap (λ l. c.loop-c.text ++ flat_map utf16 l) more.taken
+          ∙ sym (append_assoc c.loop-c.text (utf16 c.in-Some.c) (flat_map utf16 (take_while is_name_part (skip 1 c.loop-c.left).text)))
+          ∙ ap (λ t. t ++ flat_map utf16 (take_while is_name_part (skip 1 c.loop-c.left).text)) (sym c.in_ok-push_character-2.ensures)
+          ∙ ap (λ l. c.push_character-in-Some.new.text ++ flat_map utf16 (take_while is_name_part l.text)) (sym c.next.ensures.left);
     }
 
 pub returns : goal.returns
