@@ -1,3 +1,5 @@
+ghost use Rattle.std.specs.Prelude.{◌≤◌, length};
+
 use crate::tokens;
 use es_model::{Token, TokenKind};
 use std::alloc::{AllocError, Global};
@@ -49,8 +51,15 @@ fn push_token(shown: &mut String, alloc: Global, token: &Token) -> Result<(), Al
     Ok(())
 }
 
+// At most as many bytes as a text may have.
+fn front(text: &[u8]) -> &[u8]
+    ensures { length result.now ≤ 268435456 }
+{
+    &text[..text.len().min(268_435_456)]
+}
+
 fn shown(alloc: Global, text: &[u8]) -> Result<String, AllocError> {
-    match tokens(alloc, text) {
+    match tokens(alloc, front(text)) {
         Ok(tokens) => {
             let mut shown = String::new(alloc);
             for token in tokens.as_slice() {
@@ -292,7 +301,7 @@ fn bytes_of_no_sequence(rt: HostRuntime) -> Result<(), Fail> {
 
 // The number of tokens, or nothing where there is a fault.
 fn count(alloc: Global, text: &[u8]) -> Option<usize> {
-    match tokens(alloc, text) {
+    match tokens(alloc, front(text)) {
         Ok(tokens) => Some(tokens.as_slice().len()),
         Err(_) => None,
     }
