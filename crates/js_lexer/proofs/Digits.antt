@@ -1,5 +1,5 @@
 -- Numbers, a digit at a time, cut to the least that is too large.
-use Rattle.std.proofs.Common.{◌≡◌, ◌≢◌, ◌==◌, pos, Ok, Err, ℕ, zero, suc, ◌+◌, ◌-◌, ◌*◌, ◌&&◌, ◌<◌, ◌≤◌, ◌⊎◌, inl, inr, Bool, true, false, cond, List, [], ◌∷◌, length, take_while, min, nat_lt, nat_le, refl, sym, ◌∙◌, ap, arith, ⊎_elim}
+use Rattle.std.proofs.Common.{◌≡◌, ◌≢◌, ◌==◌, pos, Ok, Err, ℕ, zero, suc, ◌+◌, ◌-◌, ◌*◌, ◌&&◌, ◌<◌, ◌≤◌, Bool, true, false, List, [], ◌∷◌, length, take_while, nat_lt, nat_le, refl, sym, ◌∙◌, ap, arith, ⊎_elim}
 use Rattle.std.proofs.lemmas.Bool.{cases_lt}
 use Rattle.std.proofs.lemmas.Bool.Decides.{nat_tests}
 use Rattle.es_model.specs.Tokens.{number_after, digit_value, is_digit, is_digit_of}

@@ -1,5 +1,5 @@
 -- Names and keywords, by their units.
-use Rattle.std.proofs.Common.{◌≡◌, ℕ, suc, ◌+◌, ◌-◌, ◌/◌, ◌%◌, ◌<◌, ◌≤◌, ◌==◌, Bool, true, false, ◌&&◌, nat_lt, nat_le, List, [], ◌∷◌, ◌++◌, length, take_while, Option, Some, None, Result, Ok, refl, sym, ◌∙◌, ap, arith, ⊎_elim}
+use Rattle.std.proofs.Common.{◌≡◌, ℕ, suc, ◌+◌, ◌-◌, ◌/◌, ◌%◌, ◌<◌, ◌≤◌, ◌==◌, Bool, true, false, ◌&&◌, nat_lt, List, [], ◌∷◌, length, take_while, Option, Some, None, Ok, refl, sym, ◌∙◌, ap, arith, ⊎_elim}
 use Rattle.std.specs.List.{flat_map, list_all}
 use Rattle.std.proofs.lemmas.Bool.{cases_lt}
 use Rattle.std.proofs.lemmas.Bool.Decides.{nat_tests}
@@ -8,7 +8,7 @@ use Rattle.es_model.specs.declared.token.TokenKind.TheVariants as k
 use Rattle.es_model.specs.Tokens as s
 use Rattle.es_model.specs.Tokens.{same_text, place_from, keywords, keyword_of, name_element, is_name_part}
 use Rattle.js_lexer.specs.declared.elements.Found.TheVariants.{Token}
-use Rattle.js_lexer.specs.Left.{Left, skip}
+use Rattle.js_lexer.specs.Left.{Left}
 use Rattle.js_lexer.specs.Reads.{found, word_of, behind}
 
 abbrev is_ascii : List ℕ → Bool

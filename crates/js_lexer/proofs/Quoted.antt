@@ -1,10 +1,10 @@
 -- Strings and pieces of templates, a character or an escape at a time.
-use Rattle.std.proofs.Common.{◌≡◌, ◌≢◌, ℕ, zero, suc, ◌+◌, ◌==◌, Bool, true, false, ◌&&◌, ◌||◌, List, [], ◌∷◌, ◌++◌, length, Option, Some, None, Result, Ok, Err, refl, sym, ◌∙◌, ap, subst, arith, append_assoc}
+use Rattle.std.proofs.Common.{◌≡◌, ◌≢◌, ℕ, zero, suc, ◌+◌, ◌==◌, Bool, true, false, ◌&&◌, ◌||◌, List, [], ◌∷◌, ◌++◌, Option, Some, None, Result, Ok, Err, refl, sym, ◌∙◌, ap, subst, arith, append_assoc}
 use Rattle.std.proofs.lemmas.Bool.Decides.{nat_tests}
 use Rattle.js_value.specs.Text.{utf16}
 use Rattle.js_value.proofs.Sequences.{and_false}
 use Rattle.es_model.specs.declared.faults.LexFault.{LexFault}
-use Rattle.es_model.specs.declared.faults.LexFault.TheVariants.{OpenString, OpenTemplate, BadEscape}
+use Rattle.es_model.specs.declared.faults.LexFault.TheVariants.{OpenString, BadEscape}
 use Rattle.es_model.specs.Tokens as s
 use Rattle.es_model.specs.Tokens.{Inside, Closes, Substitutes, Breaks, Escapes, Returns, Stands, width, in_string, in_template}
 use Rattle.js_lexer.specs.Left.{Left, skip, skipped, first_of}

@@ -2,7 +2,6 @@
 use Rattle.std.proofs.Common.{◌≡◌, ℕ, zero, suc, ◌+◌, ◌-◌, ◌<◌, ◌≤◌, List, [], ◌∷◌, ◌++◌, length, take, drop, set, Option, Some, None, Ok, Err, refl, sym, ◌∙◌, ap, arith}
 use Rattle.es_model.specs.declared.faults.LexFault.TheVariants.{BadCharacter}
 use Rattle.es_model.specs.declared.token.TokenKind.TheVariants as k
-use Rattle.es_model.specs.Tokens as s
 use Rattle.es_model.specs.Tokens.{Element, Word, Wrong, longest_from, place_from, signs, sign_element}
 use Rattle.js_lexer.specs.declared.elements.Found.TheVariants.{Token}
 use Rattle.js_lexer.specs.Left.{Left, skip, first_of}

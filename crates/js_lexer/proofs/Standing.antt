@@ -1,5 +1,5 @@
 -- The element that stands at a place, by its first characters.
-use Rattle.std.proofs.Common.{◌≡◌, ◌≢◌, ℕ, zero, suc, ◌+◌, ◌==◌, Bool, true, false, ◌&&◌, ◌||◌, not, List, [], ◌∷◌, length, take, take_while, codes, Option, Some, None, Result, Ok, Err, refl, sym, ◌∙◌, ap, subst, arith, ◌⊎◌, inl, inr}
+use Rattle.std.proofs.Common.{◌≡◌, ◌≢◌, ℕ, suc, ◌+◌, ◌==◌, Bool, true, false, ◌&&◌, ◌||◌, not, List, [], ◌∷◌, take, codes, Option, Some, None, Result, Ok, Err, refl, sym, ◌∙◌, ap, subst, arith, ◌⊎◌, inl, inr}
 use Rattle.std.specs.List.{list_any}
 use Rattle.std.proofs.lemmas.Bool.Decides.{nat_tests}
 use Rattle.js_value.proofs.Sequences.{and_false}
@@ -10,8 +10,8 @@ use Rattle.es_model.specs.Tokens as s
 use Rattle.es_model.specs.Tokens.{Element, Between, Word, Wrong, Brace, element, word_element, quoted_element, closing_element, width}
 use Rattle.js_lexer.specs.declared.elements.Found.{Found}
 use Rattle.js_lexer.specs.declared.elements.Found.TheVariants.{Gap, Token}
-use Rattle.js_lexer.specs.Left.{Left, skip, skipped, first_of}
-use Rattle.js_lexer.specs.Reads.{Reads, found, behind, comment, string, string_left, piece, piece_left}
+use Rattle.js_lexer.specs.Left.{Left, skip, skipped}
+use Rattle.js_lexer.specs.Reads.{Reads, found, behind, comment, string, string_left, piece_left}
 use Rattle.js_lexer.proofs.Utf8.{width-1}
 
 -- what is read of an element is read of the same element

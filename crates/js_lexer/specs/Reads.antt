@@ -1,5 +1,5 @@
 -- What a reader answers.
-use Rattle.std.specs.Prelude.{◌≡◌, ◌≢◌, ◌<◌, ◌==◌, ◌&&◌, ◌+◌, ◌-◌, nat_le, ℕ, Bool, true, false, not, List, [], ◌∷◌, ◌++◌, length, take_while, take, drop, min, Option, Some, None, Result, Ok, Err, option_map}
+use Rattle.std.specs.Prelude.{◌≡◌, ◌≢◌, ◌<◌, ◌==◌, ◌&&◌, ◌+◌, ◌-◌, nat_le, ℕ, Bool, true, false, not, List, [], ◌∷◌, ◌++◌, length, take_while, take, drop, min, Option, Some, None, Result, Ok, Err}
 use Rattle.std.specs.List.{list_any}
 use Rattle.js_value.specs.Text.{utf16}
 use Rattle.es_model.specs.declared.faults.LexFault.{LexFault}

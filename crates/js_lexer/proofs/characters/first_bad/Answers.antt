@@ -1,7 +1,5 @@
-use Rattle.std.proofs.Common.{◌≡◌, ◌<◌, ◌≤◌, ◌∙◌, length, drop, take, sym, ap, arith}
+use Rattle.std.proofs.Common.{◌<◌, ◌∙◌, length, sym, arith}
 use Rattle.std.proofs.lemmas.List.{take_rest, length-drop}
-use Rattle.js_value.specs.Text.{parts, sequence_length}
-use Rattle.es_model.specs.Tokens.{first_bad}
 use Rattle.js_lexer.proofs.Utf8.{first_bad-ascii, first_bad-sequence, first_bad-here}
 use Rattle.js_lexer.proofs.characters.first_bad.Goals as goal
 

@@ -1,4 +1,4 @@
-use Rattle.std.proofs.Common.{◌≡◌, ◌∙◌, ◌<◌, length, drop, take, sym, ap, arith}
+use Rattle.std.proofs.Common.{◌<◌, length, arith}
 use Rattle.std.proofs.lemmas.List.{length-drop, take_rest}
 use Rattle.js_lexer.proofs.Utf8.{ascii_characters, ascii_rest, width-1}
 use Rattle.js_lexer.proofs.characters.split_first.Goals as goal

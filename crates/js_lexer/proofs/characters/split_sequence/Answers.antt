@@ -1,9 +1,7 @@
-use Rattle.std.proofs.Common.{ℕ, Option, refl, ◌≡◌, ◌+◌, ◌∙◌, length, drop, take, sym, ap, subst, arith}
-use Rattle.std.specs.Char.{InScalarRange, IsScalar}
+use Rattle.std.proofs.Common.{ℕ, Option, refl, ◌≡◌, ◌∙◌, drop, take, sym, ap, subst, arith}
+use Rattle.std.specs.Char.{IsScalar}
 use Rattle.std.specs.Option.{SomeIff}
-use Rattle.std.proofs.lemmas.List.{length-drop}
 use Rattle.js_value.specs.Text.{scalar_value, sequence_length}
-use Rattle.es_model.specs.Tokens.{characters_of, width}
 use Rattle.js_lexer.specs.Left.{IsUtf8}
 use Rattle.js_lexer.proofs.Utf8.{IsCharacterOf, sequence_characters, sequence_rest, sequence_fine}
 use Rattle.js_lexer.proofs.characters.split_sequence.Goals as goal

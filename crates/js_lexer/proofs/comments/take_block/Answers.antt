@@ -1,4 +1,4 @@
-use Rattle.std.proofs.Common.{◌≡◌, ◌∙◌, ◌||◌, Bool, true, false, option_map, sym, ap, refl}
+use Rattle.std.proofs.Common.{◌≡◌, ◌∙◌, ◌||◌, false, option_map, sym, ap}
 use Rattle.es_model.specs.Tokens.{is_line_break}
 use Rattle.js_lexer.specs.Reads.{comment}
 use Rattle.js_lexer.proofs.Blocks.{lined, ends_here, not_at, not_star, goes_on}

@@ -1,4 +1,4 @@
-use Rattle.std.proofs.Common.{◌≡◌, ◌∙◌, not, sym, ap}
+use Rattle.std.proofs.Common.{◌∙◌, not, sym, ap}
 use Rattle.es_model.specs.Tokens.{is_line_break}
 use Rattle.js_lexer.specs.Reads.{behind}
 use Rattle.js_lexer.proofs.Lefts.{goes_on}

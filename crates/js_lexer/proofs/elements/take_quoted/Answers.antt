@@ -1,5 +1,5 @@
-use Rattle.std.proofs.Common.{◌≡◌, ◌∙◌, ◌+◌, Ok, sym, ap, arith, rules}
-use Rattle.es_model.specs.Tokens.{quoted_element, read_template, template_from, sign_element}
+use Rattle.std.proofs.Common.{◌∙◌, ◌+◌, ap, arith, rules}
+use Rattle.es_model.specs.Tokens.{quoted_element}
 use Rattle.js_lexer.specs.Reads.{found}
 use Rattle.js_lexer.proofs.Utf8.{width-1}
 use Rattle.js_lexer.proofs.Answering.{reads_err}

@@ -1,8 +1,8 @@
-use Rattle.std.proofs.Common.{◌≡◌, ◌≤◌, ◌<◌, ◌+◌, ◌*◌, ◌∙◌, ◌∷◌, true, nat_lt, min, take_while, sym, ap, arith}
+use Rattle.std.proofs.Common.{◌≡◌, ◌<◌, ◌+◌, ◌*◌, ◌∙◌, ◌∷◌, true, take_while, sym, ap, arith}
 use Rattle.std.proofs.lemmas.Bool.Decides.{nat_tests}
 use Rattle.es_model.specs.Tokens.{digit_value, is_digit_of}
 use Rattle.js_lexer.specs.Reads.{behind, capped}
-use Rattle.js_lexer.proofs.Lefts.{GoesOn, goes_on}
+use Rattle.js_lexer.proofs.Lefts.{goes_on}
 use Rattle.js_lexer.proofs.Digits.{one_more}
 use Rattle.js_lexer.proofs.numbers.digits.Goals as goal
 

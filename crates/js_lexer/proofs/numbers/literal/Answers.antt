@@ -1,5 +1,5 @@
-use Rattle.std.proofs.Common.{◌≡◌, ◌∙◌, take_while, sym, ap}
-use Rattle.es_model.specs.Tokens.{number_after, digit_value, is_digit_of}
+use Rattle.std.proofs.Common.{◌∙◌, take_while, sym, ap}
+use Rattle.es_model.specs.Tokens.{number_after, is_digit_of}
 use Rattle.js_lexer.specs.Left.{skip}
 use Rattle.js_lexer.specs.Reads.{capped}
 use Rattle.js_lexer.proofs.Digits.{literal_digits}

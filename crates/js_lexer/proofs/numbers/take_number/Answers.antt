@@ -1,4 +1,4 @@
-use Rattle.std.proofs.Common.{◌≡◌, ◌∙◌, Ok, w64, sym, ap, arith}
+use Rattle.std.proofs.Common.{◌∙◌, Ok, w64, sym, ap, arith}
 use Rattle.std.proofs.lemmas.Int.{to_z_pos}
 use Rattle.es_model.specs.declared.token.TokenKind.TheVariants.{Number}
 use Rattle.js_lexer.specs.declared.elements.Found.TheVariants.{Token}

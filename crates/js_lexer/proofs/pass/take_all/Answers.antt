@@ -1,7 +1,5 @@
-use Rattle.std.proofs.Common.{◌≡◌, ◌<◌, ◌≤◌, ◌∙◌, ◌||◌, ◌++◌, ◌∷◌, [], length, true, false, Ok, Err, Result, sym, ap, arith}
-use Rattle.es_model.specs.declared.faults.LexFault.{LexFault}
+use Rattle.std.proofs.Common.{◌≡◌, ◌≤◌, ◌∙◌, ◌||◌, ◌++◌, ◌∷◌, [], length, false, Ok, sym, ap, arith}
 use Rattle.es_model.specs.Tokens.{element, braces_after, before}
-use Rattle.js_lexer.specs.declared.elements.Found.TheVariants.{Gap, Token as Lexeme}
 use Rattle.js_lexer.specs.Reads.{found}
 use Rattle.js_lexer.proofs.Lefts.{shorter}
 use Rattle.js_lexer.proofs.Answering.{lists_err}

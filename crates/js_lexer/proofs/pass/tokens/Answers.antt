@@ -1,4 +1,4 @@
-use Rattle.std.proofs.Common.{◌≡◌, ◌∙◌, [], false, sym, ap}
+use Rattle.std.proofs.Common.{◌∙◌, [], false, sym, ap}
 use Rattle.es_model.specs.Tokens.{tokens_of}
 use Rattle.js_lexer.proofs.Answering.{answers_err}
 use Rattle.js_lexer.proofs.Passing.{tokens_left, tokens-bad, tokens-good}

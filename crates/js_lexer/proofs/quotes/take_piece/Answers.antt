@@ -1,4 +1,4 @@
-use Rattle.std.proofs.Common.{◌≡◌, ◌<◌, ◌∙◌, ◌∷◌, [], length, false, Err, sym, ap, arith, rules}
+use Rattle.std.proofs.Common.{◌≡◌, ◌∙◌, ◌∷◌, [], length, false, Err, sym, ap, arith, rules}
 use Rattle.es_model.specs.declared.faults.LexFault.TheVariants.{BadEscape}
 use Rattle.js_lexer.proofs.Answering.{reads_err}
 use Rattle.js_value.specs.Text.{utf16}

@@ -1,7 +1,6 @@
-use Rattle.std.proofs.Common.{◌≡◌, ◌<◌, ◌∙◌, length, Err, sym, ap, arith, rules}
+use Rattle.std.proofs.Common.{◌∙◌, length, Err, sym, ap, arith}
 use Rattle.es_model.specs.declared.faults.LexFault.TheVariants.{BadEscape}
 use Rattle.js_lexer.proofs.Answering.{reads_err}
-use Rattle.js_lexer.specs.Left.{skip}
 use Rattle.js_lexer.specs.Reads.{string, escape}
 use Rattle.js_lexer.proofs.Lefts.{shorter}
 use Rattle.js_lexer.proofs.Escaped.{escape-shorter}

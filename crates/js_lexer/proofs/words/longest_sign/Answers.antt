@@ -1,4 +1,4 @@
-use Rattle.std.proofs.Common.{◌≡◌, ◌∙◌, ◌∷◌, ◌<◌, [], length, sym, ap, arith}
+use Rattle.std.proofs.Common.{◌∙◌, ◌∷◌, ◌<◌, [], length, sym, ap, arith}
 use Rattle.std.proofs.lemmas.List.{length-set}
 use Rattle.es_model.specs.Tokens.{place_from, signs}
 use Rattle.js_lexer.proofs.Longest.{not_ascii}

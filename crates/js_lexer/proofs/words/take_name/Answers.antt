@@ -1,11 +1,11 @@
-use Rattle.std.proofs.Common.{◌≡◌, ◌∙◌, ◌++◌, ◌∷◌, [], Ok, take_while, sym, ap, append_assoc}
+use Rattle.std.proofs.Common.{◌∙◌, ◌++◌, Ok, take_while, sym, ap, append_assoc}
 use Rattle.std.proofs.lemmas.List.{append-nil}
 use Rattle.std.specs.List.{flat_map}
 use Rattle.js_value.specs.Text.{utf16}
 use Rattle.es_model.specs.Tokens.{is_name_part}
 use Rattle.js_lexer.specs.declared.elements.Found.TheVariants.{Token}
 use Rattle.js_lexer.specs.Left.{skip}
-use Rattle.js_lexer.specs.Reads.{behind, word_of}
+use Rattle.js_lexer.specs.Reads.{behind}
 use Rattle.js_lexer.proofs.Lefts.{Stops, goes_on, stops, ends}
 use Rattle.js_lexer.proofs.Named.{name_found}
 use Rattle.js_lexer.proofs.words.take_name.Goals as goal
