@@ -1,0 +1,9 @@
+pub mod Words
+pub mod Kept
+pub mod Parts
+pub mod Tables
+pub mod State
+pub mod Ends
+pub mod Begins
+pub mod Settle
+pub mod MemberSteps
