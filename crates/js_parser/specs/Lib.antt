@@ -7,3 +7,6 @@ pub mod Ends
 pub mod Begins
 pub mod Settle
 pub mod MemberSteps
+pub mod StatementSteps
+pub mod ItemSteps
+pub mod Machine
