@@ -1,14 +1,8 @@
 -- Texts that no module begins with: the place of the first token with which none does, in expressions.
-use Rattle.std.proofs.Common.{◌≡◌, refl, true, false, [], ◌∷◌, codes, pos, Some, None}
-use Rattle.es_model.specs.declared.kinds.Semi.TheVariants as semi
-use Rattle.es_model.specs.declared.kinds.FunctionKind.TheVariants as f
-use Rattle.es_model.specs.declared.kinds.MemberKind.TheVariants as m
-use Rattle.es_model.specs.declared.kinds.BinaryOperator.TheVariants as b
-use Rattle.es_model.specs.declared.kinds.UnaryOperator.TheVariants as u
+use Rattle.std.proofs.Common.{◌≡◌, refl, true, false, [], ◌∷◌, codes, pos}
 use Rattle.es_model.specs.declared.token.TokenKind.TheVariants as k
-use Rattle.es_model.specs.Tree as t
-use Rattle.js_parser.proofs.Rows.{token, lined, named_at, pair_of}
-use Rattle.js_parser.specs.Machine.{answer, Parsed, Syntax}
+use Rattle.js_parser.proofs.Rows.{token, lined}
+use Rattle.js_parser.specs.Machine.{answer, Syntax}
 
 -- -2 ‸** 2;
 sign_of_a_power : answer (token (k.Sign 18) 0 ∷ token (k.Number (pos 2)) 1 ∷ token (k.Sign 22) 3 ∷ token (k.Number (pos 2)) 6 ∷ token (k.Sign 6) 7 ∷ token k.End 8 ∷ []) ≡ Syntax 2

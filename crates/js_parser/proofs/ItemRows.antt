@@ -2,13 +2,10 @@
 use Rattle.std.proofs.Common.{◌≡◌, refl, true, false, [], ◌∷◌, codes, pos, Some, None}
 use Rattle.es_model.specs.declared.kinds.Semi.TheVariants as semi
 use Rattle.es_model.specs.declared.kinds.FunctionKind.TheVariants as f
-use Rattle.es_model.specs.declared.kinds.MemberKind.TheVariants as m
-use Rattle.es_model.specs.declared.kinds.BinaryOperator.TheVariants as b
-use Rattle.es_model.specs.declared.kinds.UnaryOperator.TheVariants as u
 use Rattle.es_model.specs.declared.token.TokenKind.TheVariants as k
 use Rattle.es_model.specs.Tree as t
 use Rattle.js_parser.proofs.Rows.{token, lined, named_at, pair_of}
-use Rattle.js_parser.specs.Machine.{answer, Parsed, Syntax}
+use Rattle.js_parser.specs.Machine.{answer, Parsed}
 
 -- import "m";
 import_for_nothing : answer (token (k.Keyword 21) 0 ∷ token (k.String (codes "m")) 7 ∷ token (k.Sign 6) 10 ∷ token k.End 11 ∷ []) ≡ Parsed (t.more (t.Import (codes "m") [] semi.Written) t.none)

@@ -1,14 +1,12 @@
 -- Each level against its neighbours, each operator with itself, and each assignment: texts with their trees.
-use Rattle.std.proofs.Common.{◌≡◌, refl, true, false, [], ◌∷◌, codes, pos, Some, None}
+use Rattle.std.proofs.Common.{◌≡◌, refl, true, false, [], ◌∷◌, codes, Some, None}
 use Rattle.es_model.specs.declared.kinds.Semi.TheVariants as semi
-use Rattle.es_model.specs.declared.kinds.FunctionKind.TheVariants as f
-use Rattle.es_model.specs.declared.kinds.MemberKind.TheVariants as m
 use Rattle.es_model.specs.declared.kinds.BinaryOperator.TheVariants as b
 use Rattle.es_model.specs.declared.kinds.UnaryOperator.TheVariants as u
 use Rattle.es_model.specs.declared.token.TokenKind.TheVariants as k
 use Rattle.es_model.specs.Tree as t
-use Rattle.js_parser.proofs.Rows.{token, lined, named_at, pair_of}
-use Rattle.js_parser.specs.Machine.{answer, Parsed, Syntax}
+use Rattle.js_parser.proofs.Rows.{token, lined, named_at}
+use Rattle.js_parser.specs.Machine.{answer, Parsed}
 
 -- a || b && c; a && b || c;
 or_against_and : answer (token (k.Name (codes "a")) 0 ∷ token (k.Sign 34) 2 ∷ token (k.Name (codes "b")) 5 ∷ token (k.Sign 33) 7 ∷ token (k.Name (codes "c")) 10 ∷ token (k.Sign 6) 11 ∷ token (k.Name (codes "a")) 13 ∷ token (k.Sign 33) 15 ∷ token (k.Name (codes "b")) 18 ∷ token (k.Sign 34) 20 ∷ token (k.Name (codes "c")) 23 ∷ token (k.Sign 6) 24 ∷ token k.End 25 ∷ []) ≡ Parsed (t.more (t.Plain (t.Value (t.Or (t.Name (named_at 0 (codes "a"))) (t.And (t.Name (named_at 5 (codes "b"))) (t.Name (named_at 10 (codes "c"))))) semi.Written)) (t.more (t.Plain (t.Value (t.Or (t.And (t.Name (named_at 13 (codes "a"))) (t.Name (named_at 18 (codes "b")))) (t.Name (named_at 23 (codes "c")))) semi.Written)) t.none))

@@ -11,3 +11,4 @@ pub mod StatementMisses
 pub mod ItemMisses
 pub mod DepthRows
 pub mod WordRows
+pub mod Laws

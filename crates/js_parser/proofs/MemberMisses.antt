@@ -1,14 +1,8 @@
 -- Texts that no module begins with: the place of the first token with which none does, in functions, classes and objects.
-use Rattle.std.proofs.Common.{◌≡◌, refl, true, false, [], ◌∷◌, codes, pos, Some, None}
-use Rattle.es_model.specs.declared.kinds.Semi.TheVariants as semi
-use Rattle.es_model.specs.declared.kinds.FunctionKind.TheVariants as f
-use Rattle.es_model.specs.declared.kinds.MemberKind.TheVariants as m
-use Rattle.es_model.specs.declared.kinds.BinaryOperator.TheVariants as b
-use Rattle.es_model.specs.declared.kinds.UnaryOperator.TheVariants as u
+use Rattle.std.proofs.Common.{◌≡◌, refl, [], ◌∷◌, codes, pos}
 use Rattle.es_model.specs.declared.token.TokenKind.TheVariants as k
-use Rattle.es_model.specs.Tree as t
-use Rattle.js_parser.proofs.Rows.{token, lined, named_at, pair_of}
-use Rattle.js_parser.specs.Machine.{answer, Parsed, Syntax}
+use Rattle.js_parser.proofs.Rows.{token}
+use Rattle.js_parser.specs.Machine.{answer, Syntax}
 
 -- ({a ‸b});
 object_without_commas : answer (token (k.Sign 2) 0 ∷ token (k.Sign 0) 1 ∷ token (k.Name (codes "a")) 2 ∷ token (k.Name (codes "b")) 4 ∷ token (k.Sign 1) 5 ∷ token (k.Sign 3) 6 ∷ token (k.Sign 6) 7 ∷ token k.End 8 ∷ []) ≡ Syntax 3

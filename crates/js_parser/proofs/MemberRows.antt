@@ -3,12 +3,10 @@ use Rattle.std.proofs.Common.{◌≡◌, refl, true, false, [], ◌∷◌, codes
 use Rattle.es_model.specs.declared.kinds.Semi.TheVariants as semi
 use Rattle.es_model.specs.declared.kinds.FunctionKind.TheVariants as f
 use Rattle.es_model.specs.declared.kinds.MemberKind.TheVariants as m
-use Rattle.es_model.specs.declared.kinds.BinaryOperator.TheVariants as b
-use Rattle.es_model.specs.declared.kinds.UnaryOperator.TheVariants as u
 use Rattle.es_model.specs.declared.token.TokenKind.TheVariants as k
 use Rattle.es_model.specs.Tree as t
-use Rattle.js_parser.proofs.Rows.{token, lined, named_at, pair_of}
-use Rattle.js_parser.specs.Machine.{answer, Parsed, Syntax}
+use Rattle.js_parser.proofs.Rows.{token, named_at}
+use Rattle.js_parser.specs.Machine.{answer, Parsed}
 
 -- ({get, set});
 short_accessor_words : answer (token (k.Sign 2) 0 ∷ token (k.Sign 0) 1 ∷ token (k.Name (codes "get")) 2 ∷ token (k.Sign 7) 5 ∷ token (k.Name (codes "set")) 7 ∷ token (k.Sign 1) 10 ∷ token (k.Sign 3) 11 ∷ token (k.Sign 6) 12 ∷ token k.End 13 ∷ []) ≡ Parsed (t.more (t.Plain (t.Value (t.Paren (t.Object (t.more (t.MemberOf 2 false m.Short (t.KeyWord (codes "get")) t.absent t.absent) (t.more (t.MemberOf 7 false m.Short (t.KeyWord (codes "set")) t.absent t.absent) t.none)))) semi.Written)) t.none)

@@ -1,14 +1,13 @@
 -- Arrow heads against parenthesised lists, `new` with and without arguments, members, calls, lists and templates: texts with their trees.
-use Rattle.std.proofs.Common.{◌≡◌, refl, true, false, [], ◌∷◌, codes, pos, Some, None}
+use Rattle.std.proofs.Common.{◌≡◌, refl, true, false, [], ◌∷◌, codes, Some, None}
 use Rattle.es_model.specs.declared.kinds.Semi.TheVariants as semi
 use Rattle.es_model.specs.declared.kinds.FunctionKind.TheVariants as f
-use Rattle.es_model.specs.declared.kinds.MemberKind.TheVariants as m
 use Rattle.es_model.specs.declared.kinds.BinaryOperator.TheVariants as b
 use Rattle.es_model.specs.declared.kinds.UnaryOperator.TheVariants as u
 use Rattle.es_model.specs.declared.token.TokenKind.TheVariants as k
 use Rattle.es_model.specs.Tree as t
-use Rattle.js_parser.proofs.Rows.{token, lined, named_at, pair_of}
-use Rattle.js_parser.specs.Machine.{answer, Parsed, Syntax}
+use Rattle.js_parser.proofs.Rows.{token, lined, named_at}
+use Rattle.js_parser.specs.Machine.{answer, Parsed}
 
 -- a => b;
 arrow_of_a_name : answer (token (k.Name (codes "a")) 0 ∷ token (k.Sign 51) 2 ∷ token (k.Name (codes "b")) 5 ∷ token (k.Sign 6) 6 ∷ token k.End 7 ∷ []) ≡ Parsed (t.more (t.Plain (t.Value (t.Function (t.FunctionOf 0 None f.Arrow ((named_at 0 (codes "a")) ∷ []) (t.BodyExpression ((t.Name (named_at 5 (codes "b"))))))) semi.Written)) t.none)

@@ -1,5 +1,5 @@
 -- The tokens with which an operand or a statement begins, and those that may stand in its place.
-use Rattle.std.specs.Prelude.{ℕ, Bool, true, false, ◌&&◌, List, [], ◌∷◌, ◌++◌, Option, Some, None, nat_le, if◌then◌else◌}
+use Rattle.std.specs.Prelude.{ℕ, Bool, true, false, List, [], ◌∷◌, Option, Some, None, nat_le, if◌then◌else◌}
 use Rattle.es_model.specs.declared.names.Identifier.{Identifier}
 use Rattle.es_model.specs.declared.token.Token.{Token}
 use Rattle.es_model.specs.declared.token.TokenKind.{TokenKind}
@@ -7,7 +7,6 @@ use Rattle.es_model.specs.declared.token.TokenKind.TheVariants as k
 use Rattle.es_model.specs.Tree as t
 use Rattle.js_parser.specs.declared.words.Word.{Word}
 use Rattle.js_parser.specs.declared.words.Word.TheVariants as w
-use Rattle.js_parser.specs.declared.frame.Frame.{Frame}
 use Rattle.js_parser.specs.declared.frame.Frame.TheVariants as f
 use Rattle.js_parser.specs.declared.frame.Infix.TheVariants as i
 use Rattle.js_parser.specs.declared.frame.Prefix.{Prefix}
@@ -24,7 +23,6 @@ use Rattle.js_parser.specs.declared.frame.ExpressionDue.TheVariants as xd
 use Rattle.js_parser.specs.declared.frame.MemberDue.TheVariants as md
 use Rattle.js_parser.specs.declared.frame.StatementDue.TheVariants as sd
 use Rattle.js_parser.specs.declared.frame.ItemDue.TheVariants as nd
-use Rattle.js_parser.specs.declared.parts.Heading.TheVariants as h
 use Rattle.js_parser.specs.Words.{keyword_word, sign_word}
 use Rattle.js_parser.specs.Kept.{Sorted, none, and_then}
 use Rattle.js_parser.specs.Parts as p

@@ -1,6 +1,5 @@
 -- What is done where a form is complete and no token is left over: it is put into the form round it.
-use Rattle.std.specs.Prelude.{ℕ, Bool, true, false, List, [], ◌∷◌, ◌++◌, Option, Some, None}
-use Rattle.es_model.specs.declared.kinds.Semi.TheVariants as semi
+use Rattle.std.specs.Prelude.{ℕ, Bool, true, false, List, [], ◌∷◌, Option, Some, None}
 use Rattle.es_model.specs.declared.kinds.FunctionKind.{FunctionKind}
 use Rattle.es_model.specs.declared.kinds.FunctionKind.TheVariants as kind
 use Rattle.es_model.specs.declared.kinds.MemberKind.{MemberKind}
@@ -10,9 +9,7 @@ use Rattle.es_model.specs.Tree as t
 use Rattle.es_model.specs.Tree.{Tree}
 use Rattle.js_parser.specs.declared.words.Word.{Word}
 use Rattle.js_parser.specs.declared.words.Word.TheVariants as w
-use Rattle.js_parser.specs.declared.frame.Frame.{Frame}
 use Rattle.js_parser.specs.declared.frame.Frame.TheVariants as f
-use Rattle.js_parser.specs.declared.frame.ExpressionFrame.TheVariants as x
 use Rattle.js_parser.specs.declared.frame.MemberFrame.TheVariants as m
 use Rattle.js_parser.specs.declared.frame.StatementFrame.TheVariants as s
 use Rattle.js_parser.specs.declared.frame.ItemFrame.TheVariants as n
@@ -30,7 +27,7 @@ use Rattle.js_parser.specs.declared.frame.Control.TheVariants as c
 use Rattle.js_parser.specs.declared.frame.MemberDue.TheVariants as md
 use Rattle.js_parser.specs.declared.frame.StatementDue.TheVariants as sd
 use Rattle.js_parser.specs.declared.parts.Part.{Part}
-use Rattle.js_parser.specs.Kept.{Sorted, none, and_then}
+use Rattle.js_parser.specs.Kept.{Sorted, and_then}
 use Rattle.js_parser.specs.Parts as p
 use Rattle.js_parser.specs.State.{Frames, State, state, fail, operand_due, read, statement_due, member_part, statement_part}
 

@@ -10,3 +10,4 @@ pub mod MemberSteps
 pub mod StatementSteps
 pub mod ItemSteps
 pub mod Machine
+pub mod Cut

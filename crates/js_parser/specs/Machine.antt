@@ -1,5 +1,5 @@
 -- The parser as a machine that takes one token after another, and what it answers.
-use Rattle.std.specs.Prelude.{ℕ, suc, List, [], ◌∷◌, Option, Some, None}
+use Rattle.std.specs.Prelude.{ℕ, suc, [], ◌∷◌, Option, Some, None}
 use Rattle.es_model.specs.declared.token.Token.{Token}
 use Rattle.es_model.specs.Readings.{Tokens}
 use Rattle.es_model.specs.Tree as t
@@ -8,7 +8,7 @@ use Rattle.js_parser.specs.declared.frame.Control.{Control}
 use Rattle.js_parser.specs.declared.frame.Control.TheVariants as c
 use Rattle.js_parser.specs.declared.frame.Frame.TheVariants as f
 use Rattle.js_parser.specs.declared.frame.ItemFrame.TheVariants as n
-use Rattle.js_parser.specs.Kept.{Sorted, none}
+use Rattle.js_parser.specs.Kept.{none}
 use Rattle.js_parser.specs.State.{Frames, State, state, fail, statement_due}
 use Rattle.js_parser.specs.Begins.{operand, begin}
 use Rattle.js_parser.specs.Settle.{settle}

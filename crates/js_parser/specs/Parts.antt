@@ -1,6 +1,5 @@
 -- What was read, form by form: of each the tree, if it may be kept, its nesting, and what the grammar asks of it.
-use Rattle.std.specs.Prelude.{ℕ, Bool, true, false, ◌&&◌, List, [], ◌∷◌, ◌++◌, Option, Some, None}
-use lib.IntN.{ℤ}
+use Rattle.std.specs.Prelude.{ℕ, Bool, true, false, List, [], ◌∷◌, ◌++◌, Option, None}
 use Rattle.es_model.specs.declared.kinds.Semi.{Semi}
 use Rattle.es_model.specs.declared.kinds.Semi.TheVariants as semi
 use Rattle.es_model.specs.declared.kinds.FunctionKind.{FunctionKind}
@@ -8,21 +7,21 @@ use Rattle.es_model.specs.declared.kinds.FunctionKind.TheVariants as f
 use Rattle.es_model.specs.declared.kinds.MemberKind.{MemberKind}
 use Rattle.es_model.specs.declared.kinds.MemberKind.TheVariants as m
 use Rattle.es_model.specs.declared.kinds.BinaryOperator.{BinaryOperator}
-use Rattle.es_model.specs.declared.kinds.UnaryOperator.{UnaryOperator}
 use Rattle.es_model.specs.declared.names.Identifier.{Identifier}
-use Rattle.es_model.specs.declared.names.Pair.{Pair}
 use Rattle.es_model.specs.Tree as t
 use Rattle.es_model.specs.Tree.{Tree, Text}
-use Rattle.es_model.specs.Levels.{operator_level, is_constructor_key, Holder, method_kind}
+use Rattle.es_model.specs.Levels.{operator_level, is_constructor_key}
 use Rattle.js_parser.specs.declared.parts.Part.{Part}
 use Rattle.js_parser.specs.declared.parts.Heading.{Heading}
 use Rattle.js_parser.specs.declared.parts.Heading.TheVariants as h
+use Rattle.js_parser.specs.declared.parts.Literal.{Literal}
+use Rattle.js_parser.specs.declared.parts.Literal.TheVariants as literals
 use Rattle.js_parser.specs.declared.frame.Infix.{Infix}
 use Rattle.js_parser.specs.declared.frame.Infix.TheVariants as i
 use Rattle.js_parser.specs.declared.frame.Prefix.{Prefix}
 use Rattle.js_parser.specs.declared.frame.Prefix.TheVariants as p
 use Rattle.js_parser.specs.declared.frame.KeyPart.{KeyPart}
-use Rattle.js_parser.specs.Kept.{Sorted, flat, around, both, counted, optional, none, and_then}
+use Rattle.js_parser.specs.Kept.{Sorted, flat, around, both, counted, optional}
 
 -- Expressions. `plain` is one of which nothing but its level is asked, `target` one that may be assigned to.
 
@@ -37,6 +36,17 @@ target of at level has_call =
 -- what has nothing in it
 abbrev pub leaf : Tree t.expression → ℕ → Part
 leaf tree at = plain (counted (flat tree)) at 18
+
+abbrev literal_tree : Literal → Tree t.expression
+literal_tree literals.This = t.This
+literal_tree literals.Null = t.Null
+literal_tree literals.True = t.True
+literal_tree literals.False = t.False
+literal_tree (literals.Number number) = t.Number number
+literal_tree (literals.String text) = t.String text
+
+abbrev pub literal : Literal → ℕ → Part
+literal one at = leaf (literal_tree one) at
 
 abbrev pub name : Identifier → Part
 name one =

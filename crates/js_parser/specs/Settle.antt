@@ -3,7 +3,6 @@ use Rattle.std.specs.Prelude.{ℕ, Bool, true, false, List, [], ◌∷◌, ◌++
 use Rattle.es_model.specs.declared.kinds.BinaryOperator.{BinaryOperator}
 use Rattle.es_model.specs.declared.kinds.Semi.{Semi}
 use Rattle.es_model.specs.declared.kinds.Semi.TheVariants as semi
-use Rattle.es_model.specs.declared.kinds.MemberKind.TheVariants as member
 use Rattle.es_model.specs.declared.names.Identifier.{Identifier}
 use Rattle.es_model.specs.declared.token.Token.{Token}
 use Rattle.es_model.specs.declared.token.TokenKind.{TokenKind}
@@ -18,7 +17,6 @@ use Rattle.js_parser.specs.declared.frame.Frame.TheVariants as f
 use Rattle.js_parser.specs.declared.frame.Infix.{Infix}
 use Rattle.js_parser.specs.declared.frame.Callee.{Callee}
 use Rattle.js_parser.specs.declared.frame.Callee.TheVariants as callee
-use Rattle.js_parser.specs.declared.frame.MemberStart.{MemberStart}
 use Rattle.js_parser.specs.declared.frame.ExpressionFrame.TheVariants as x
 use Rattle.js_parser.specs.declared.frame.MemberFrame.TheVariants as m
 use Rattle.js_parser.specs.declared.frame.StatementFrame.TheVariants as s
@@ -35,7 +33,7 @@ use Rattle.js_parser.specs.Kept.{Sorted, none, and_then}
 use Rattle.js_parser.specs.Parts as p
 use Rattle.js_parser.specs.Tables.{infix_of, assignment_of, is_left_of, is_base, is_new_callee, head_of, goes_on_in, may_miss}
 use Rattle.js_parser.specs.State.{Frames, State, fail, operand_due, read, statement_due, expression_part, member_part, statement_part, the_word}
-use Rattle.js_parser.specs.Ends.{put, put_item, class_end, called}
+use Rattle.js_parser.specs.Ends.{put, put_item, called}
 use Rattle.js_parser.specs.Begins.{close, close_item}
 
 -- A statement with a semicolon that may be missing.

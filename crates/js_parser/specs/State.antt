@@ -1,5 +1,5 @@
 -- Where the reading of tokens stands: what is due or was read, and the open forms, the innermost first.
-use Rattle.std.specs.Prelude.{ℕ, Bool, true, false, List, [], ◌∷◌}
+use Rattle.std.specs.Prelude.{List, []}
 use Rattle.es_model.specs.declared.token.Token.{Token}
 use Rattle.js_parser.specs.declared.parts.Part.{Part}
 use Rattle.js_parser.specs.declared.frame.Frame.{Frame}

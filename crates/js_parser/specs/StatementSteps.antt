@@ -1,59 +1,31 @@
 -- What a token makes of a state in which a part of a statement is due.
 
-use Rattle.std.specs.Prelude.{ℕ, Bool, true, false, not, ◌&&◌, ◌||◌, List, [], ◌∷◌, ◌++◌, codes, Option, Some, None, nat_le, if◌then◌else◌}
+use Rattle.std.specs.Prelude.{ℕ, Bool, true, false, ◌||◌, ◌∷◌, Option, Some, None, if◌then◌else◌}
 use Rattle.es_model.specs.declared.kinds.Semi.{Semi}
-use Rattle.es_model.specs.declared.kinds.Semi.TheVariants as semi
-use Rattle.es_model.specs.declared.kinds.MemberKind.{MemberKind}
-use Rattle.es_model.specs.declared.kinds.MemberKind.TheVariants as member
 use Rattle.es_model.specs.declared.names.Identifier.{Identifier}
-use Rattle.es_model.specs.declared.names.Pair.{Pair}
 use Rattle.es_model.specs.declared.token.Token.{Token}
 use Rattle.es_model.specs.declared.token.TokenKind.{TokenKind}
 use Rattle.es_model.specs.declared.token.TokenKind.TheVariants as k
-use Rattle.es_model.specs.Tokens.{same_text}
-use Rattle.es_model.specs.Readings.{plain_name}
 use Rattle.es_model.specs.Tree as t
 use Rattle.es_model.specs.Tree.{Tree, Text}
 use Rattle.js_parser.specs.declared.words.Word.{Word}
 use Rattle.js_parser.specs.declared.words.Word.TheVariants as w
-use Rattle.js_parser.specs.declared.parts.Part.{Part}
-use Rattle.js_parser.specs.declared.frame.Frame.{Frame}
 use Rattle.js_parser.specs.declared.frame.Frame.TheVariants as f
-use Rattle.js_parser.specs.declared.frame.Callee.TheVariants as callee
-use Rattle.js_parser.specs.declared.frame.KeyPart.{KeyPart}
-use Rattle.js_parser.specs.declared.frame.MemberStart.{MemberStart}
-use Rattle.js_parser.specs.declared.frame.ClassStart.{ClassStart}
-use Rattle.js_parser.specs.declared.frame.Signature.{Signature}
-use Rattle.js_parser.specs.declared.frame.Signature.TheVariants as g
-use Rattle.js_parser.specs.declared.frame.Role.{Role}
-use Rattle.js_parser.specs.declared.frame.Role.TheVariants as role
-use Rattle.js_parser.specs.declared.frame.ExpressionFrame.TheVariants as x
-use Rattle.js_parser.specs.declared.frame.MemberFrame.TheVariants as m
 use Rattle.js_parser.specs.declared.frame.StatementFrame.TheVariants as s
-use Rattle.js_parser.specs.declared.frame.ItemFrame.TheVariants as n
 use Rattle.js_parser.specs.declared.frame.ListRole.TheVariants as l
 use Rattle.js_parser.specs.declared.frame.DeclareRole.{DeclareRole}
 use Rattle.js_parser.specs.declared.frame.DeclareRole.TheVariants as d
 use Rattle.js_parser.specs.declared.frame.Jump.{Jump}
 use Rattle.js_parser.specs.declared.frame.Jump.TheVariants as j
-use Rattle.js_parser.specs.declared.frame.PairRole.{PairRole}
-use Rattle.js_parser.specs.declared.frame.PairRole.TheVariants as pr
-use Rattle.js_parser.specs.declared.frame.ExpressionDue.{ExpressionDue}
-use Rattle.js_parser.specs.declared.frame.ExpressionDue.TheVariants as xd
-use Rattle.js_parser.specs.declared.frame.MemberDue.{MemberDue}
-use Rattle.js_parser.specs.declared.frame.MemberDue.TheVariants as md
 use Rattle.js_parser.specs.declared.frame.StatementDue.{StatementDue}
 use Rattle.js_parser.specs.declared.frame.StatementDue.TheVariants as sd
-use Rattle.js_parser.specs.declared.frame.ItemDue.{ItemDue}
-use Rattle.js_parser.specs.declared.frame.ItemDue.TheVariants as nd
-use Rattle.js_parser.specs.Words.{sign_word}
 use Rattle.js_parser.specs.Kept.{Sorted, none, and_then}
 use Rattle.js_parser.specs.Parts as p
 use Rattle.js_parser.specs.Tables.{may_miss_bare, is_semicolon}
-use Rattle.js_parser.specs.State.{Frames, State, fail, operand_due, read, statement_due, expression_part, member_part, statement_part, item_part, the_word}
-use Rattle.js_parser.specs.Ends.{put, class_end, switch_end, case_start}
-use Rattle.js_parser.specs.Begins.{operand, declaration, close, else_or, while_or_fail}
-use Rattle.js_parser.specs.Settle.{statement_end, item_end, may, names_end, object_next}
+use Rattle.js_parser.specs.State.{Frames, State, fail, operand_due, statement_due, statement_part, the_word}
+use Rattle.js_parser.specs.Ends.{switch_end, case_start}
+use Rattle.js_parser.specs.Begins.{operand, close, else_or, while_or_fail}
+use Rattle.js_parser.specs.Settle.{statement_end, names_end}
 
 -- a state, where the word is the one that is due
 abbrev at_paren : State → Word → State

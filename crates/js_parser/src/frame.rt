@@ -1,12 +1,16 @@
 //! The forms that are open, and what is due (ECMA-262, 13 to 16).
 
 use crate::parts::{Kept, Part};
-use crate::trees::{Cases, Declarators, Expressions, HeadTree, Items, KeyTree, Members, Statements};
-use es_model::{BinaryOperator, Expression, Identifier, MemberKind, Pair, Statement, TreeList, UnaryOperator};
+use crate::trees::{
+    Cases, Declarators, Expressions, HeadTree, Items, KeyTree, Members, Statements,
+};
+use es_model::{
+    BinaryOperator, Expression, Identifier, MemberKind, Pair, Statement, TreeList, UnaryOperator,
+};
 use js_value::Units;
 
 /// An operator between two operands.
-#[derive(Clone, Copy, Debug, PartialEq, Eq)]
+#[derive(Clone, Copy, PartialEq, Eq)]
 pub enum Infix {
     Binary(BinaryOperator),
     In,
@@ -18,7 +22,7 @@ pub enum Infix {
 }
 
 /// An operator before its operand; `++` and `--` are none.
-#[derive(Clone, Copy, Debug, PartialEq, Eq)]
+#[derive(Clone, Copy, PartialEq, Eq)]
 pub enum Prefix {
     Unary(UnaryOperator),
     Typeof,
@@ -35,7 +39,7 @@ pub enum Callee {
 }
 
 /// What a function or a class stands as; `at` is the place of the word `default`.
-#[derive(Clone, Copy, Debug, PartialEq, Eq)]
+#[derive(Clone, Copy, PartialEq, Eq)]
 pub enum Role {
     Expression,
     Statement,
@@ -82,15 +86,33 @@ pub struct ClassStart {
 /// An expression that is open.
 #[derive(Drop)]
 pub enum ExpressionFrame {
-    Paren { at: u32 },
-    Infix { operator: Infix, left: Part },
-    Prefix { operator: Prefix, at: u32 },
-    Update { at: u32, up: bool },
-    New { at: u32 },
+    Paren {
+        at: u32,
+    },
+    Infix {
+        operator: Infix,
+        left: Part,
+    },
+    Prefix {
+        operator: Prefix,
+        at: u32,
+    },
+    Update {
+        at: u32,
+        up: bool,
+    },
+    New {
+        at: u32,
+    },
     /// Between `?` and `:`.
-    Yes { test: Part },
+    Yes {
+        test: Part,
+    },
     /// Behind the `:` of a conditional.
-    No { test: Part, yes: Part },
+    No {
+        test: Part,
+        yes: Part,
+    },
     Assign {
         target: Part,
         operator: Option<BinaryOperator>,
@@ -103,9 +125,16 @@ pub enum ExpressionFrame {
         callee: Callee,
         arguments: Kept<Expressions>,
     },
-    Array { at: u32, items: Kept<Expressions> },
-    Index { of: Part },
-    SuperIndex { at: u32 },
+    Array {
+        at: u32,
+        items: Kept<Expressions>,
+    },
+    Index {
+        of: Part,
+    },
+    SuperIndex {
+        at: u32,
+    },
     Template {
         at: u32,
         texts: TreeList<Units>,
@@ -116,8 +145,14 @@ pub enum ExpressionFrame {
 /// A member, a class or an object literal that is open.
 #[derive(Drop)]
 pub enum MemberFrame {
-    Object { at: u32, members: Kept<Members> },
-    Class { start: ClassStart, members: Kept<Members> },
+    Object {
+        at: u32,
+        members: Kept<Members>,
+    },
+    Class {
+        start: ClassStart,
+        members: Kept<Members>,
+    },
     /// Behind `extends`.
     Parent {
         at: u32,
@@ -125,20 +160,26 @@ pub enum MemberFrame {
         role: Role,
     },
     /// A computed key.
-    Key { at: u32, fixed: bool, kind: MemberKind },
+    Key {
+        at: u32,
+        fixed: bool,
+        kind: MemberKind,
+    },
     /// Behind the `:` of a member.
-    Value { start: MemberStart },
+    Value {
+        start: MemberStart,
+    },
 }
 
 /// What declared names belong to.
-#[derive(Clone, Copy, Debug, PartialEq, Eq)]
+#[derive(Clone, Copy, PartialEq, Eq)]
 pub enum DeclareRole {
     Statement,
     For,
 }
 
 /// A statement that begins with a word and a condition in parentheses.
-#[derive(Clone, Copy, Debug, PartialEq, Eq)]
+#[derive(Clone, Copy, PartialEq, Eq)]
 pub enum Opening {
     If,
     While,
@@ -167,7 +208,9 @@ pub enum ListRole {
         at: u32,
         parameters: TreeList<Identifier>,
     },
-    Case { test: Option<Kept<Expression>> },
+    Case {
+        test: Option<Kept<Expression>>,
+    },
 }
 
 /// A statement that is open.
@@ -189,28 +232,38 @@ pub enum StatementFrame {
     /// The condition of an `if` or a `while`, or the value of a switch.
     Test(Opening),
     /// The condition of a `do..while` loop.
-    DoTest { body: Kept<Statement> },
+    DoTest {
+        body: Kept<Statement>,
+    },
     /// The value before the first `;` of a `for`.
     ForValue,
     /// The test of a `for`.
-    ForTest { head: Kept<HeadTree> },
+    ForTest {
+        head: Kept<HeadTree>,
+    },
     /// The step of a `for`.
     ForStep {
         head: Kept<HeadTree>,
         test: Option<Kept<Expression>>,
     },
-    Return { at: u32 },
+    Return {
+        at: u32,
+    },
     Throw,
     /// The test of a case.
     CaseTest,
     /// The first statement of an `if`.
-    Yes { test: Kept<Expression> },
+    Yes {
+        test: Kept<Expression>,
+    },
     /// The statement behind `else`.
     No {
         test: Kept<Expression>,
         yes: Kept<Statement>,
     },
-    While { test: Kept<Expression> },
+    While {
+        test: Kept<Expression>,
+    },
     For {
         head: Kept<HeadTree>,
         test: Option<Kept<Expression>>,
@@ -247,11 +300,17 @@ pub enum Frame {
 #[derive(Drop)]
 pub enum ExpressionDue {
     /// Behind `.`: a name or a keyword.
-    Property { of: Part },
+    Property {
+        of: Part,
+    },
     /// Behind `super`.
-    Super { at: u32 },
+    Super {
+        at: u32,
+    },
     /// Behind `super.`.
-    SuperProperty { at: u32 },
+    SuperProperty {
+        at: u32,
+    },
     /// Behind a head that is no expression, which is `()` or has a comma at its end: `=>`.
     Arrow {
         at: u32,
@@ -272,7 +331,9 @@ pub enum MemberDue {
     /// Behind a member of an object literal: `,` or `}`.
     Next,
     /// Behind `static`, which begins at a place.
-    Fixed { at: u32 },
+    Fixed {
+        at: u32,
+    },
     /// Behind the name `get` or `set`.
     Accessor {
         at: u32,
@@ -286,9 +347,14 @@ pub enum MemberDue {
         short: Option<Identifier>,
     },
     /// Behind `function`.
-    FunctionName { at: u32, role: Role },
+    FunctionName {
+        at: u32,
+        role: Role,
+    },
     /// The `(` of the parameters.
-    Parameters { signature: Signature },
+    Parameters {
+        signature: Signature,
+    },
     /// A parameter or `)`.
     Parameter {
         signature: Signature,
@@ -305,7 +371,10 @@ pub enum MemberDue {
         parameters: TreeList<Identifier>,
     },
     /// Behind `class`.
-    ClassName { at: u32, role: Role },
+    ClassName {
+        at: u32,
+        role: Role,
+    },
     /// Behind a class's name.
     ClassNext {
         at: u32,
@@ -315,7 +384,7 @@ pub enum MemberDue {
 }
 
 /// A `break` or a `continue`.
-#[derive(Clone, Copy, Debug, PartialEq, Eq)]
+#[derive(Clone, Copy, PartialEq, Eq)]
 pub enum Jump {
     Break,
     Continue,
@@ -329,7 +398,9 @@ pub enum StatementDue {
     /// The `{` before a list of statements.
     Brace(ListRole),
     /// The `{` of a switch.
-    SwitchBrace { value: Kept<Expression> },
+    SwitchBrace {
+        value: Kept<Expression>,
+    },
     /// A case or the end of a switch.
     Case,
     /// The `:` behind `default`.
@@ -339,7 +410,9 @@ pub enum StatementDue {
     /// Behind the `(` of a `for`.
     ForHead,
     /// Behind the first `;` of a `for`.
-    ForTest { head: Kept<HeadTree> },
+    ForTest {
+        head: Kept<HeadTree>,
+    },
     /// Behind the second `;` of a `for`.
     ForStep {
         head: Kept<HeadTree>,
@@ -364,26 +437,41 @@ pub enum StatementDue {
         yes: Kept<Statement>,
     },
     /// Behind the statement of a `do`: `while`.
-    DoWhile { body: Kept<Statement> },
+    DoWhile {
+        body: Kept<Statement>,
+    },
     /// The `(` behind that.
-    DoOpen { body: Kept<Statement> },
+    DoOpen {
+        body: Kept<Statement>,
+    },
     /// Behind the `)` of a `do..while` loop.
     DoEnd {
         body: Kept<Statement>,
         test: Kept<Expression>,
     },
     /// Behind `break` or `continue`.
-    Jump { jump: Jump, at: u32 },
+    Jump {
+        jump: Jump,
+        at: u32,
+    },
     /// Behind `return`.
-    Return { at: u32 },
+    Return {
+        at: u32,
+    },
     /// Behind `throw`.
     Throw,
     /// Behind the block of a `try`.
-    Guard { block: Kept<Statements> },
+    Guard {
+        block: Kept<Statements>,
+    },
     /// Behind `catch`.
-    Catch { block: Kept<Statements> },
+    Catch {
+        block: Kept<Statements>,
+    },
     /// Behind `catch (`.
-    CatchName { block: Kept<Statements> },
+    CatchName {
+        block: Kept<Statements>,
+    },
     /// Behind the name of a `catch`.
     CatchClose {
         block: Kept<Statements>,
@@ -399,7 +487,7 @@ pub enum StatementDue {
 
 /// What a list of pairs belongs to. `from` says that a name stands in it that only another module can
 /// give, so that `from` is due behind it.
-#[derive(Clone, Copy, Debug, PartialEq, Eq)]
+#[derive(Clone, Copy, PartialEq, Eq)]
 pub enum PairRole {
     Import,
     Export { from: bool },
@@ -411,11 +499,18 @@ pub enum ItemDue {
     /// Behind `import`.
     Import,
     /// Behind `import` and a name.
-    ImportNext { pairs: TreeList<Pair> },
+    ImportNext {
+        pairs: TreeList<Pair>,
+    },
     /// Behind `import`, a name and a comma: `{`.
-    ImportBrace { pairs: TreeList<Pair> },
+    ImportBrace {
+        pairs: TreeList<Pair>,
+    },
     /// A pair, or the end of the list.
-    Pair { role: PairRole, pairs: TreeList<Pair> },
+    Pair {
+        role: PairRole,
+        pairs: TreeList<Pair>,
+    },
     /// Behind the first name of a pair; `outer` says that it is the word `default`.
     PairAs {
         role: PairRole,
@@ -431,11 +526,19 @@ pub enum ItemDue {
         outer: bool,
     },
     /// Behind a pair with `as`.
-    PairNext { role: PairRole, pairs: TreeList<Pair> },
+    PairNext {
+        role: PairRole,
+        pairs: TreeList<Pair>,
+    },
     /// The word `from` of an import.
-    From { pairs: TreeList<Pair> },
+    From {
+        pairs: TreeList<Pair>,
+    },
     /// The name of the other module.
-    Other { role: PairRole, pairs: TreeList<Pair> },
+    Other {
+        role: PairRole,
+        pairs: TreeList<Pair>,
+    },
     /// Behind the name of the other module.
     OtherEnd {
         role: PairRole,
@@ -443,11 +546,16 @@ pub enum ItemDue {
         from: Units,
     },
     /// Behind the list of an export.
-    ExportNext { from: bool, pairs: TreeList<Pair> },
+    ExportNext {
+        from: bool,
+        pairs: TreeList<Pair>,
+    },
     /// Behind `export`.
     Export,
     /// Behind `default`, which begins at a place.
-    Default { at: u32 },
+    Default {
+        at: u32,
+    },
 }
 
 /// Where the reading of a text stands.

@@ -1,4 +1,5 @@
 use es_model::{Expression, Identifier, TreeList};
+use js_value::Units;
 
 /// What is kept of a thing that was read: its tree, where its nesting is at most 64, and its
 /// nesting, which stands still at 65 (own rule). So no tree is held that is nested deeper than 64.
@@ -31,4 +32,15 @@ pub struct Part {
     pub is_bare_new: bool,
     pub has_call: bool,
     pub heading: Heading,
+}
+
+/// An expression that is one token, and no name: a literal or `this` (ECMA-262, 13.2).
+#[derive(Drop)]
+pub enum Literal {
+    This,
+    Null,
+    True,
+    False,
+    Number(i64),
+    String(Units),
 }

@@ -1,6 +1,9 @@
 //! The trees of the syntax that contracts don't see as pure trees by themselves, each as one of these.
 
-use es_model::{Case, Class, Declarator, Default, Expression, Function, Head, Item, Key, Member, Statement, TreeList};
+use es_model::{
+    Case, Class, Declarator, Default, Expression, Function, Head, Item, Key, Member, Statement,
+    TreeList,
+};
 use std::marker::Model;
 
 /// A list of expressions. Contracts see them as one tree.

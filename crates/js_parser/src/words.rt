@@ -5,7 +5,7 @@ use es_model::TokenKind;
 
 /// What the grammar tells tokens apart by: the keywords and the signs by name, and what else a token is.
 /// A keyword that no form has is `Reserved`; a number past the lists is `Unknown`.
-#[derive(Clone, Copy, Debug, PartialEq, Eq)]
+#[derive(Clone, Copy, PartialEq, Eq)]
 pub enum Word {
     Name,
     Number,

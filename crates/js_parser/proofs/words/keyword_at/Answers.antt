@@ -1,4 +1,4 @@
-use Rattle.std.proofs.Common.{◌≡◌, sym, arith}
+use Rattle.std.proofs.Common.{sym, arith}
 use Rattle.std.proofs.lemmas.List.{get_or_past}
 use Rattle.js_parser.specs.Words.{keyword_words}
 use Rattle.js_parser.specs.declared.words.Word.TheVariants as w
