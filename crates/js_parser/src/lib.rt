@@ -6,6 +6,8 @@ mod expressions;
 mod frame;
 mod parts;
 mod stack;
+#[cfg(test)]
+mod tests;
 mod trees;
 mod words;
 
