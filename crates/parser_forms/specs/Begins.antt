@@ -33,31 +33,31 @@ use Rattle.parser_forms.specs.Ends.{put, braces_end, next_case, module_end, call
 -- Operands.
 
 -- what is no expression stands as an arrow's head, where an arrow may stand
-abbrev head_where : Frames → ℕ → Option (List Identifier) → State
+abbrev pub head_where : Frames → ℕ → Option (List Identifier) → State
 head_where frames at (Some names) = if nat_le (slot frames) 2 then expression_part (xd.Arrow at names) frames else fail
 head_where frames at None = fail
 
 -- a `)` in place of an operand: behind `(`, or behind a comma
-abbrev close_paren : Frames → State
+abbrev pub close_paren : Frames → State
 close_paren (f.Expression (x.Paren at) ∷ frames) = head_where frames at (Some [])
 close_paren (f.Expression (x.Infix i.Comma left) ∷ f.Expression (x.Paren at) ∷ frames) = head_where frames at (list_of left.heading)
 close_paren (f.Expression (x.Arguments of arguments) ∷ frames) = read (called of arguments) frames
 close_paren _ = fail
 
 -- a `]` in place of an operand
-abbrev close_bracket : Frames → State
+abbrev pub close_bracket : Frames → State
 close_bracket (f.Expression (x.Array at items) ∷ frames) = read (p.array at items) frames
 close_bracket _ = fail
 
 -- `!`, `typeof` and their like, and `++` and `--`, where an operand may be so loose
-abbrev prefixed : Frames → Option Prefix → ℕ → State
+abbrev pub prefixed : Frames → Option Prefix → ℕ → State
 prefixed frames (Some operator) at = if nat_le (slot frames) 15 then operand_due (f.Expression (x.Prefix operator at) ∷ frames) else fail
 prefixed frames None at = fail
 
-abbrev updated : Frames → Bool → ℕ → State
+abbrev pub updated : Frames → Bool → ℕ → State
 updated frames up at = if nat_le (slot frames) 16 then operand_due (f.Expression (x.Update at up) ∷ frames) else fail
 
-abbrev operand_word : Frames → Word → ℕ → State
+abbrev pub operand_word : Frames → Word → ℕ → State
 operand_word frames w.This at = read (p.leaf t.This at) frames
 operand_word frames w.Null at = read (p.leaf t.Null at) frames
 operand_word frames w.True at = read (p.leaf t.True at) frames
@@ -75,7 +75,7 @@ operand_word frames w.RightParen at = close_paren frames
 operand_word frames w.RightBracket at = close_bracket frames
 operand_word frames word at = prefixed frames (prefix_of word) at
 
-abbrev operand_kind : Frames → TokenKind → ℕ → State
+abbrev pub operand_kind : Frames → TokenKind → ℕ → State
 operand_kind frames (k.Name text) at = read (p.name (record { at = at; name = text })) frames
 operand_kind frames (k.Number number) at = read (p.leaf (t.Number number) at) frames
 operand_kind frames (k.String text) at = read (p.leaf (t.String text) at) frames
@@ -92,12 +92,12 @@ operand frames token = operand_kind frames token.kind token.at
 -- Statements.
 
 -- a list of statements, where declarations may stand, and the module, where items may
-abbrev in_list : Frames → Bool
+abbrev pub in_list : Frames → Bool
 in_list (f.Statement (s.List role list) ∷ frames) = true
 in_list (f.Item (n.Module items) ∷ frames) = true
 in_list _ = false
 
-abbrev in_module : Frames → Bool
+abbrev pub in_module : Frames → Bool
 in_module (f.Item (n.Module items) ∷ frames) = true
 in_module _ = false
 
@@ -109,15 +109,15 @@ declaration frames w.Function at = member_part (md.FunctionName at role.Statemen
 declaration frames w.Class at = member_part (md.ClassName at role.Statement) frames
 declaration frames _ at = fail
 
-abbrev declared : Frames → Word → ℕ → State
+abbrev pub declared : Frames → Word → ℕ → State
 declared frames word at = if in_list frames then declaration frames word at else fail
 
-abbrev item : Frames → Word → State
+abbrev pub item : Frames → Word → State
 item frames w.Import = item_part nd.Import frames
 item frames w.Export = item_part nd.Export frames
 item frames _ = fail
 
-abbrev statement_word : Frames → Word → Token → State
+abbrev pub statement_word : Frames → Word → Token → State
 statement_word frames w.LeftBrace token = statement_due (f.Statement (s.List l.Block none) ∷ frames)
 statement_word frames w.RightBrace token = braces_end frames
 statement_word frames w.Semicolon token = put frames (p.bare t.Empty)

@@ -65,7 +65,7 @@ is_derived start = elim start.parent [ None ↦ false | Some parent ↦ true ]
 abbrev pub method : MemberStart → FunctionKind → List Identifier → Sorted (t.list t.statement) → Sorted t.member
 method start due parameters body = p.function_member start.at start.fixed start.kind start.key (p.function start.at None due parameters body)
 
-abbrev method_end : Frames → MemberStart → List Identifier → Sorted (t.list t.statement) → State
+abbrev pub method_end : Frames → MemberStart → List Identifier → Sorted (t.list t.statement) → State
 method_end (f.Member (m.Object at members) ∷ frames) start parameters body =
     member_part md.Next (f.Member (m.Object at (and_then members (method start (method_kind start.kind true false false) parameters body))) ∷ frames)
 method_end (f.Member (m.Class class members) ∷ frames) start parameters body =
@@ -78,7 +78,7 @@ function_end frames (g.Function at own role.Statement) parameters body = put fra
 function_end frames (g.Function at own (role.Default place)) parameters body = put_item frames (p.default_function place (p.function at own kind.Plain parameters body))
 function_end frames (g.Method start) parameters body = method_end frames start parameters body
 
-abbrev class_end_as : Frames → Role → ℕ → Sorted t.class → State
+abbrev pub class_end_as : Frames → Role → ℕ → Sorted t.class → State
 class_end_as frames role.Expression at class = read (p.class_expression at class) frames
 class_end_as frames role.Statement at class = put frames (p.class_statement class)
 class_end_as frames (role.Default place) at class = put_item frames (p.default_class place class)
@@ -108,7 +108,7 @@ abbrev pub next_case : Frames → Word → State
 next_case (f.Statement (s.List (l.Case test) body) ∷ frames) word = case_start (with_case test body frames) word
 next_case _ word = fail
 
-abbrev list_end : ListRole → Frames → Sorted (t.list t.statement) → State
+abbrev pub list_end : ListRole → Frames → Sorted (t.list t.statement) → State
 list_end l.Block frames list = put frames (p.block list)
 list_end l.Try frames list = statement_part (sd.Guard list) frames
 list_end (l.Catch block own) frames list = statement_part (sd.Finally block own list) frames

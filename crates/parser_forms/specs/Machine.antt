@@ -17,7 +17,7 @@ use Rattle.parser_forms.specs.StatementSteps.{statement_step}
 use Rattle.parser_forms.specs.ItemSteps.{item_step}
 
 -- What a token makes of a state. A state that failed, or in which the module is complete, takes none.
-abbrev step_by : Control → Frames → Token → State
+abbrev pub step_by : Control → Frames → Token → State
 step_by c.Fail frames token = fail
 step_by c.Operand frames token = operand frames token
 step_by (c.Read part) frames token = settle frames part token
@@ -45,15 +45,15 @@ pub data Answer : Type 0 where
   TooDeep : Answer
   Syntax : ℕ → Answer
 
-abbrev kept_answer : Option (Tree (t.list t.item)) → Answer
+abbrev pub kept_answer : Option (Tree (t.list t.item)) → Answer
 kept_answer (Some tree) = Parsed tree
 kept_answer None = TooDeep
 
-abbrev last_answer : ℕ → Control → Answer
+abbrev pub last_answer : ℕ → Control → Answer
 last_answer place (c.Done items) = kept_answer items.tree
 last_answer place _ = Syntax place
 
-abbrev unless_failed : ℕ → Control → Answer → Answer
+abbrev pub unless_failed : ℕ → Control → Answer → Answer
 unless_failed place c.Fail other = Syntax place
 unless_failed place _ other = other
 

@@ -38,32 +38,32 @@ use Rattle.parser_forms.specs.Begins.{operand}
 use Rattle.parser_forms.specs.Settle.{object_next}
 
 -- a name that is no keyword
-abbrev ident : ℕ → Text → Identifier
+abbrev pub ident : ℕ → Text → Identifier
 ident at text = record { at = at; name = text }
 
 -- Expressions.
 
-abbrev property : Option Text → (Text → State) → State
+abbrev pub property : Option Text → (Text → State) → State
 property (Some text) make = make text
 property None make = fail
 
 -- arguments of `super`, which is no callee of a `new`
-abbrev super_arguments : Frames → ℕ → State
+abbrev pub super_arguments : Frames → ℕ → State
 super_arguments (f.Expression (x.New place) ∷ frames) at = fail
 super_arguments frames at = operand_due (f.Expression (x.Arguments (callee.Super at) none) ∷ frames)
 
-abbrev super_word : Frames → ℕ → Word → State
+abbrev pub super_word : Frames → ℕ → Word → State
 super_word frames at w.Point = expression_part (xd.SuperProperty at) frames
 super_word frames at w.LeftBracket = operand_due (f.Expression (x.SuperIndex at) ∷ frames)
 super_word frames at w.LeftParen = super_arguments frames at
 super_word frames at _ = fail
 
 -- `=>` stands on the line of its head
-abbrev arrow_word : Frames → ℕ → List Identifier → Word → Bool → State
+abbrev pub arrow_word : Frames → ℕ → List Identifier → Word → Bool → State
 arrow_word frames at parameters w.Arrow false = expression_part (xd.ArrowBody at parameters) frames
 arrow_word frames at parameters _ _ = fail
 
-abbrev arrow_body : Frames → ℕ → List Identifier → Token → Word → State
+abbrev pub arrow_body : Frames → ℕ → List Identifier → Token → Word → State
 arrow_body frames at parameters token w.LeftBrace = statement_due (f.Statement (s.List (l.Arrow at parameters) none) ∷ frames)
 arrow_body frames at parameters token _ = operand (f.Expression (x.Arrow at parameters) ∷ frames) token
 
@@ -76,22 +76,22 @@ expression_step (xd.ArrowBody at parameters) frames token = arrow_body frames at
 
 -- Members.
 
-abbrev start_of : ℕ → Bool → MemberKind → KeyPart → MemberStart
+abbrev pub start_of : ℕ → Bool → MemberKind → KeyPart → MemberStart
 start_of at fixed kind key = record { at = at; fixed = fixed; kind = kind; key = key }
 
-abbrev keyed : Frames → ℕ → Bool → MemberKind → Tree t.key → Option Identifier → State
+abbrev pub keyed : Frames → ℕ → Bool → MemberKind → Tree t.key → Option Identifier → State
 keyed frames at fixed kind key short = member_part (md.Key (start_of at fixed kind (p.key key)) short) frames
 
-abbrev keyword_key : Frames → ℕ → Bool → MemberKind → Option Text → State
+abbrev pub keyword_key : Frames → ℕ → Bool → MemberKind → Option Text → State
 keyword_key frames at fixed kind (Some text) = keyed frames at fixed kind (t.KeyWord text) None
 keyword_key frames at fixed kind None = fail
 
-abbrev sign_key : Frames → ℕ → Bool → MemberKind → Word → State
+abbrev pub sign_key : Frames → ℕ → Bool → MemberKind → Word → State
 sign_key frames at fixed kind w.LeftBracket = operand_due (f.Member (m.Key at fixed kind) ∷ frames)
 sign_key frames at fixed kind _ = fail
 
 -- a key; `get` and `set` are names here
-abbrev key_kind : Frames → ℕ → Bool → MemberKind → ℕ → TokenKind → State
+abbrev pub key_kind : Frames → ℕ → Bool → MemberKind → ℕ → TokenKind → State
 key_kind frames at fixed kind place (k.Name text) = keyed frames at fixed kind (t.KeyWord text) (Some (ident place text))
 key_kind frames at fixed kind place (k.Keyword number) = keyword_key frames at fixed kind (plain_name (k.Keyword number))
 key_kind frames at fixed kind place (k.String text) = keyed frames at fixed kind (t.KeyString text) None
@@ -100,40 +100,40 @@ key_kind frames at fixed kind place (k.Sign number) = sign_key frames at fixed k
 key_kind frames at fixed kind place _ = fail
 
 -- the beginning of a member: `get` and `set` may be the word of an accessor
-abbrev name_start : Frames → ℕ → Bool → ℕ → Text → State
+abbrev pub name_start : Frames → ℕ → Bool → ℕ → Text → State
 name_start frames at fixed place text =
     if same_text text (codes "get") then member_part (md.Accessor at fixed member.Getter (ident place text)) frames else
     (if same_text text (codes "set") then member_part (md.Accessor at fixed member.Setter (ident place text)) frames else
     key_kind frames at fixed member.Method place (k.Name text))
 
-abbrev member_kind : Frames → ℕ → Bool → ℕ → TokenKind → State
+abbrev pub member_kind : Frames → ℕ → Bool → ℕ → TokenKind → State
 member_kind frames at fixed place (k.Name text) = name_start frames at fixed place text
 member_kind frames at fixed place kind = key_kind frames at fixed member.Method place kind
 
-abbrev member_start : Frames → ℕ → Bool → Token → State
+abbrev pub member_start : Frames → ℕ → Bool → Token → State
 member_start frames at fixed token = member_kind frames at fixed token.at token.kind
 
-abbrev parameters_of : MemberStart → Frames → State
+abbrev pub parameters_of : MemberStart → Frames → State
 parameters_of start frames = member_part (md.Parameter (g.Method start) []) frames
 
 -- behind the key of a member of an object literal
-abbrev object_key : Frames → MemberStart → Option Identifier → MemberKind → Word → State
+abbrev pub object_key : Frames → MemberStart → Option Identifier → MemberKind → Word → State
 object_key frames start short kind w.LeftParen = parameters_of start frames
 object_key frames start short member.Method w.Colon = operand_due (f.Member (m.Value start) ∷ frames)
 object_key frames start (Some one) member.Method w.Comma = object_next frames (p.short_member one) w.Comma
 object_key frames start (Some one) member.Method w.RightBrace = object_next frames (p.short_member one) w.RightBrace
 object_key frames start short kind _ = fail
 
-abbrev class_key : Frames → MemberStart → Word → State
+abbrev pub class_key : Frames → MemberStart → Word → State
 class_key frames start w.LeftParen = parameters_of start frames
 class_key frames start _ = fail
 
-abbrev key_next : Frames → MemberStart → Option Identifier → Word → State
+abbrev pub key_next : Frames → MemberStart → Option Identifier → Word → State
 key_next (f.Member (m.Object at members) ∷ frames) start short word = object_key (f.Member (m.Object at members) ∷ frames) start short start.kind word
 key_next frames start short word = class_key frames start word
 
 -- behind `get` or `set`: it is the key itself, or the word of an accessor
-abbrev accessor : Frames → ℕ → Bool → MemberKind → Identifier → Token → Word → State
+abbrev pub accessor : Frames → ℕ → Bool → MemberKind → Identifier → Token → Word → State
 accessor frames at fixed kind one token w.LeftParen = key_next frames (start_of at fixed member.Method (p.key (t.KeyWord one.name))) (Some one) w.LeftParen
 accessor frames at fixed kind one token w.Colon = key_next frames (start_of at fixed member.Method (p.key (t.KeyWord one.name))) (Some one) w.Colon
 accessor frames at fixed kind one token w.Comma = key_next frames (start_of at fixed member.Method (p.key (t.KeyWord one.name))) (Some one) w.Comma
@@ -141,27 +141,27 @@ accessor frames at fixed kind one token w.RightBrace = key_next frames (start_of
 accessor frames at fixed kind one token _ = key_kind frames at fixed kind token.at token.kind
 
 -- behind `static`: it is the key itself, or it marks the member
-abbrev fixed_member : Frames → ℕ → Token → Word → State
+abbrev pub fixed_member : Frames → ℕ → Token → Word → State
 fixed_member frames at token w.LeftParen = key_next frames (start_of at false member.Method (p.key (t.KeyWord (codes "static")))) None w.LeftParen
 fixed_member frames at token _ = member_start frames at true token
 
-abbrev object_member : Frames → ℕ → Sorted (t.list t.member) → Token → Word → State
+abbrev pub object_member : Frames → ℕ → Sorted (t.list t.member) → Token → Word → State
 object_member frames at members token w.RightBrace = read (p.object at members) frames
 object_member frames at members token _ = member_start (f.Member (m.Object at members) ∷ frames) token.at false token
 
-abbrev class_member : Frames → ClassStart → Sorted (t.list t.member) → Token → Word → State
+abbrev pub class_member : Frames → ClassStart → Sorted (t.list t.member) → Token → Word → State
 class_member frames start members token w.RightBrace = class_end frames start members
 class_member frames start members token w.Semicolon = member_part md.Member (f.Member (m.Class start members) ∷ frames)
 class_member frames start members token w.Static = member_part (md.Fixed token.at) (f.Member (m.Class start members) ∷ frames)
 class_member frames start members token _ = member_start (f.Member (m.Class start members) ∷ frames) token.at false token
 
-abbrev member_due : Frames → Token → State
+abbrev pub member_due : Frames → Token → State
 member_due (f.Member (m.Object at members) ∷ frames) token = object_member frames at members token (the_word token)
 member_due (f.Member (m.Class start members) ∷ frames) token = class_member frames start members token (the_word token)
 member_due _ token = fail
 
 -- behind a method of an object literal
-abbrev member_next : Frames → Word → State
+abbrev pub member_next : Frames → Word → State
 member_next frames w.Comma = member_part md.Member frames
 member_next (f.Member (m.Object at members) ∷ frames) w.RightBrace = read (p.object at members) frames
 member_next _ _ = fail
@@ -170,57 +170,57 @@ member_next _ _ = fail
 
 -- a getter has no parameter; a setter has one, with no comma behind it
 
-abbrev is_setter : MemberKind → Bool
+abbrev pub is_setter : MemberKind → Bool
 is_setter member.Setter = true
 is_setter _ = false
 
-abbrev is_setter_of : Signature → Bool
+abbrev pub is_setter_of : Signature → Bool
 is_setter_of (g.Method start) = is_setter start.kind
 is_setter_of (g.Function at own stands) = false
 
-abbrev is_getter : MemberKind → Bool
+abbrev pub is_getter : MemberKind → Bool
 is_getter member.Getter = true
 is_getter _ = false
 
-abbrev is_getter_of : Signature → Bool
+abbrev pub is_getter_of : Signature → Bool
 is_getter_of (g.Method start) = is_getter start.kind
 is_getter_of (g.Function at own stands) = false
 
-abbrev function_name : Frames → ℕ → Role → TokenKind → ℕ → Word → State
+abbrev pub function_name : Frames → ℕ → Role → TokenKind → ℕ → Word → State
 function_name frames at stands (k.Name text) place word = member_part (md.Parameters (g.Function at (Some (ident place text)) stands)) frames
 function_name frames at role.Statement kind place word = fail
 function_name frames at stands kind place w.LeftParen = member_part (md.Parameter (g.Function at None stands) []) frames
 function_name frames at stands kind place _ = fail
 
-abbrev parameter_end : Frames → Signature → List Identifier → Word → State
+abbrev pub parameter_end : Frames → Signature → List Identifier → Word → State
 parameter_end frames signature parameters w.RightParen = if is_setter_of signature then fail else member_part (md.Body signature parameters) frames
 parameter_end frames signature parameters _ = fail
 
-abbrev parameter : Frames → Signature → List Identifier → TokenKind → ℕ → Word → State
+abbrev pub parameter : Frames → Signature → List Identifier → TokenKind → ℕ → Word → State
 parameter frames signature parameters (k.Name text) place word =
     if is_getter_of signature then fail else member_part (md.ParameterNext signature (parameters ++ ident place text ∷ [])) frames
 parameter frames signature parameters kind place word = parameter_end frames signature parameters word
 
-abbrev parameter_next : Frames → Signature → List Identifier → Word → State
+abbrev pub parameter_next : Frames → Signature → List Identifier → Word → State
 parameter_next frames signature parameters w.RightParen = member_part (md.Body signature parameters) frames
 parameter_next frames signature parameters w.Comma = if is_setter_of signature then fail else member_part (md.Parameter signature parameters) frames
 parameter_next frames signature parameters _ = fail
 
-abbrev class_next : Frames → ℕ → Option Identifier → Role → Word → State
+abbrev pub class_next : Frames → ℕ → Option Identifier → Role → Word → State
 class_next frames at own stands w.Extends = operand_due (f.Member (m.Parent at own stands) ∷ frames)
 class_next frames at own stands w.LeftBrace = member_part md.Member (f.Member (m.Class (record { at = at; name = own; role = stands; parent = None }) none) ∷ frames)
 class_next frames at own stands _ = fail
 
-abbrev class_name : Frames → ℕ → Role → TokenKind → ℕ → Word → State
+abbrev pub class_name : Frames → ℕ → Role → TokenKind → ℕ → Word → State
 class_name frames at stands (k.Name text) place word = member_part (md.ClassNext at (Some (ident place text)) stands) frames
 class_name frames at role.Statement kind place word = fail
 class_name frames at stands kind place word = class_next frames at None stands word
 
-abbrev open_paren : State → Word → State
+abbrev pub open_paren : State → Word → State
 open_paren st w.LeftParen = st
 open_paren st _ = fail
 
-abbrev open_brace : State → Word → State
+abbrev pub open_brace : State → Word → State
 open_brace st w.LeftBrace = st
 open_brace st _ = fail
 

@@ -37,7 +37,7 @@ target of at level has_call =
 abbrev pub leaf : Tree t.expression → ℕ → Part
 leaf tree at = plain (counted (flat tree)) at 18
 
-abbrev literal_tree : Literal → Tree t.expression
+abbrev pub literal_tree : Literal → Tree t.expression
 literal_tree literals.This = t.This
 literal_tree literals.Null = t.Null
 literal_tree literals.True = t.True
@@ -116,7 +116,7 @@ update_before at up part = plain (counted (around (t.Update at up true) part.of)
 abbrev pub update_behind : Bool → Part → Part
 update_behind up part = plain (counted (around (t.Update part.at up false) part.of)) part.at 16
 
-abbrev prefix_tree : Prefix → ℕ → Tree t.expression → Tree t.expression
+abbrev pub prefix_tree : Prefix → ℕ → Tree t.expression → Tree t.expression
 prefix_tree (p.Unary operator) at tree = t.Unary operator tree
 prefix_tree p.Typeof at tree = t.Typeof tree
 prefix_tree p.Void at tree = t.Void tree
@@ -125,7 +125,7 @@ prefix_tree p.Delete at tree = t.Delete at tree
 abbrev pub prefix_form : Prefix → ℕ → Part → Part
 prefix_form operator at part = plain (counted (around (prefix_tree operator at) part.of)) at 15
 
-abbrev infix_tree : Infix → Tree t.expression → Tree t.expression → Tree t.expression
+abbrev pub infix_tree : Infix → Tree t.expression → Tree t.expression → Tree t.expression
 infix_tree (i.Binary operator) left right = t.Binary operator left right
 infix_tree i.In left right = t.In left right
 infix_tree i.InstanceOf left right = t.InstanceOf left right
@@ -149,11 +149,11 @@ listed_names (h.Name one) (h.Name two) = h.Names (one ∷ two ∷ [])
 listed_names (h.Names names) (h.Name last) = h.Names (names ++ last ∷ [])
 listed_names _ _ = h.Nothing
 
-abbrev infix_heading : Infix → Heading → Heading → Heading
+abbrev pub infix_heading : Infix → Heading → Heading → Heading
 infix_heading i.Comma left right = listed_names left right
 infix_heading _ left right = h.Nothing
 
-abbrev infix_nullish : Infix → Bool
+abbrev pub infix_nullish : Infix → Bool
 infix_nullish i.Nullish = true
 infix_nullish _ = false
 

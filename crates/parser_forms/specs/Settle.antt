@@ -60,11 +60,11 @@ names_end frames constant names d.For token = for_names (the_word token)
 
 -- A token goes on with an expression.
 
-abbrev arrow_where : Frames → ℕ → Option (List Identifier) → State
+abbrev pub arrow_where : Frames → ℕ → Option (List Identifier) → State
 arrow_where frames at (Some names) = expression_part (xd.ArrowBody at names) frames
 arrow_where frames at None = fail
 
-abbrev taken_as : Part → Frames → Word → State
+abbrev pub taken_as : Part → Frames → Word → State
 taken_as part frames w.Arrow = arrow_where frames part.at (head_of part.heading)
 taken_as part frames w.Question = if nat_le 4 part.level then operand_due (f.Expression (x.Yes part) ∷ frames) else fail
 taken_as part frames w.PlusPlus = if part.is_target then read (p.update_behind true part) frames else fail
@@ -74,7 +74,7 @@ taken_as part frames w.LeftBracket = if is_base part then operand_due (f.Express
 taken_as part frames w.LeftParen = if is_base part then operand_due (f.Expression (x.Arguments (callee.Call part) none) ∷ frames) else fail
 taken_as part frames _ = fail
 
-abbrev taken_by : Part → Frames → Option Infix → Option (Option BinaryOperator) → Word → State
+abbrev pub taken_by : Part → Frames → Option Infix → Option (Option BinaryOperator) → Word → State
 taken_by part frames (Some operator) assignment word = if is_left_of operator part then operand_due (f.Expression (x.Infix operator part) ∷ frames) else fail
 taken_by part frames None (Some operator) word = if part.is_target then operand_due (f.Expression (x.Assign part operator) ∷ frames) else fail
 taken_by part frames None None word = taken_as part frames word
@@ -84,39 +84,39 @@ taken part frames token = taken_by part frames (infix_of (the_word token)) (assi
 
 -- A token ends a form that waits for the expression.
 
-abbrev arguments_end : Frames → Callee → Sorted (t.list t.expression) → Word → State
+abbrev pub arguments_end : Frames → Callee → Sorted (t.list t.expression) → Word → State
 arguments_end frames of arguments w.RightParen = read (called of arguments) frames
 arguments_end frames of arguments w.Comma = operand_due (f.Expression (x.Arguments of arguments) ∷ frames)
 arguments_end frames of arguments _ = fail
 
-abbrev items_end : Frames → ℕ → Sorted (t.list t.expression) → Word → State
+abbrev pub items_end : Frames → ℕ → Sorted (t.list t.expression) → Word → State
 items_end frames at items w.RightBracket = read (p.array at items) frames
 items_end frames at items w.Comma = operand_due (f.Expression (x.Array at items) ∷ frames)
 items_end frames at items _ = fail
 
-abbrev template_end : Frames → ℕ → List Text → Sorted (t.list t.expression) → TokenKind → State
+abbrev pub template_end : Frames → ℕ → List Text → Sorted (t.list t.expression) → TokenKind → State
 template_end frames at texts values (k.Template text false true) = read (p.template at (texts ++ text ∷ []) values) frames
 template_end frames at texts values (k.Template text false false) = operand_due (f.Expression (x.Template at (texts ++ text ∷ []) values) ∷ frames)
 template_end frames at texts values _ = fail
 
 -- a state, where the word is the one that is due
-abbrev at_paren : State → Word → State
+abbrev pub at_paren : State → Word → State
 at_paren st w.RightParen = st
 at_paren st _ = fail
 
-abbrev at_bracket : State → Word → State
+abbrev pub at_bracket : State → Word → State
 at_bracket st w.RightBracket = st
 at_bracket st _ = fail
 
-abbrev at_colon : State → Word → State
+abbrev pub at_colon : State → Word → State
 at_colon st w.Colon = st
 at_colon st _ = fail
 
-abbrev at_semicolon : State → Word → State
+abbrev pub at_semicolon : State → Word → State
 at_semicolon st w.Semicolon = st
 at_semicolon st _ = fail
 
-abbrev at_brace : State → Word → State
+abbrev pub at_brace : State → Word → State
 at_brace st w.LeftBrace = st
 at_brace st _ = fail
 
@@ -126,16 +126,16 @@ object_next (f.Member (m.Object at members) ∷ frames) one w.Comma = member_par
 object_next (f.Member (m.Object at members) ∷ frames) one w.RightBrace = read (p.object at (and_then members one)) frames
 object_next _ one _ = fail
 
-abbrev test_end : Frames → Opening → Part → State
+abbrev pub test_end : Frames → Opening → Part → State
 test_end frames o.If part = statement_due (f.Statement (s.Yes part.of) ∷ frames)
 test_end frames o.While part = statement_due (f.Statement (s.While part.of) ∷ frames)
 test_end frames o.Switch part = statement_part (sd.SwitchBrace part.of) frames
 
-abbrev initialiser_end : Frames → Bool → Sorted (t.list t.declarator) → DeclareRole → Token → Word → State
+abbrev pub initialiser_end : Frames → Bool → Sorted (t.list t.declarator) → DeclareRole → Token → Word → State
 initialiser_end frames constant names use_of token w.Comma = statement_part (sd.Name constant names use_of) frames
 initialiser_end frames constant names use_of token _ = names_end frames constant names use_of token
 
-abbrev ended : Frame → Frames → Part → Token → State
+abbrev pub ended : Frame → Frames → Part → Token → State
 ended (f.Expression (x.Paren at)) frames part token = at_paren (read (p.paren at part) frames) (the_word token)
 ended (f.Expression (x.Yes test)) frames part token = at_colon (operand_due (f.Expression (x.No test part) ∷ frames)) (the_word token)
 ended (f.Expression (x.Arguments of arguments)) frames part token = arguments_end frames of (and_then arguments part.of) (the_word token)
@@ -163,29 +163,25 @@ ended (f.Item (n.Default at)) frames part token = item_end frames (p.default_val
 ended _ frames part token = fail
 
 -- the callee of a `new` ends at its arguments, or where it has none
-abbrev new_end : State → State → Part → Word → State
+abbrev pub new_end : State → State → Part → Word → State
 new_end arguments bare part w.LeftParen = if is_base part then arguments else fail
 new_end arguments bare part _ = bare
 
+-- A form ends, and what it makes is read in its turn: by `again`, in the forms that are left.
+abbrev pub closed : Frame → (Part → State) → Frames → Part → Token → State
+closed (f.Expression (x.Infix operator left)) again frames part token = again (p.operation operator left part)
+closed (f.Expression (x.Prefix operator at)) again frames part token = again (p.prefix_form operator at part)
+closed (f.Expression (x.Update at up)) again frames part token = if part.is_target then again (p.update_before at up part) else fail
+closed (f.Expression (x.New at)) again frames part token =
+    if is_new_callee part then new_end (operand_due (f.Expression (x.Arguments (callee.New at part) none) ∷ frames)) (again (p.bare_new at part)) part (the_word token) else fail
+closed (f.Expression (x.No test first)) again frames part token = again (p.conditional test first part)
+closed (f.Expression (x.Assign to operator)) again frames part token = again (p.assign to operator part)
+closed (f.Expression (x.Arrow at parameters)) again frames part token = again (p.arrow at parameters part)
+closed frame again frames part token = ended frame frames part token
+
 -- The innermost form waits for the expression. Where the token makes something of the expression that the
--- form may hold, the expression goes on; else the form ends, and what it makes is read in its turn.
+-- form may hold, the expression goes on; else the form ends.
 abbrev pub settle : Frames → Part → Token → State
 settle [] part token = fail
-settle (f.Expression (x.Infix operator left) ∷ frames) part token =
-    if goes_on_in (f.Expression (x.Infix operator left)) (the_word token) token.line_before then taken part (f.Expression (x.Infix operator left) ∷ frames) token else settle frames (p.operation operator left part) token
-settle (f.Expression (x.Prefix operator at) ∷ frames) part token =
-    if goes_on_in (f.Expression (x.Prefix operator at)) (the_word token) token.line_before then taken part (f.Expression (x.Prefix operator at) ∷ frames) token else settle frames (p.prefix_form operator at part) token
-settle (f.Expression (x.Update at up) ∷ frames) part token =
-    if goes_on_in (f.Expression (x.Update at up)) (the_word token) token.line_before then taken part (f.Expression (x.Update at up) ∷ frames) token else
-    (if part.is_target then settle frames (p.update_before at up part) token else fail)
-settle (f.Expression (x.New at) ∷ frames) part token =
-    if goes_on_in (f.Expression (x.New at)) (the_word token) token.line_before then taken part (f.Expression (x.New at) ∷ frames) token else
-    (if is_new_callee part then new_end (operand_due (f.Expression (x.Arguments (callee.New at part) none) ∷ frames)) (settle frames (p.bare_new at part) token) part (the_word token) else fail)
-settle (f.Expression (x.No test first) ∷ frames) part token =
-    if goes_on_in (f.Expression (x.No test first)) (the_word token) token.line_before then taken part (f.Expression (x.No test first) ∷ frames) token else settle frames (p.conditional test first part) token
-settle (f.Expression (x.Assign to operator) ∷ frames) part token =
-    if goes_on_in (f.Expression (x.Assign to operator)) (the_word token) token.line_before then taken part (f.Expression (x.Assign to operator) ∷ frames) token else settle frames (p.assign to operator part) token
-settle (f.Expression (x.Arrow at parameters) ∷ frames) part token =
-    if goes_on_in (f.Expression (x.Arrow at parameters)) (the_word token) token.line_before then taken part (f.Expression (x.Arrow at parameters) ∷ frames) token else settle frames (p.arrow at parameters part) token
 settle (frame ∷ frames) part token =
-    if goes_on_in frame (the_word token) token.line_before then taken part (frame ∷ frames) token else ended frame frames part token
+    if goes_on_in frame (the_word token) token.line_before then taken part (frame ∷ frames) token else closed frame (λ next. settle frames next token) frames part token

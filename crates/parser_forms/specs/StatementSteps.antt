@@ -28,95 +28,95 @@ use Rattle.parser_forms.specs.Begins.{operand, close, else_or, while_or_fail}
 use Rattle.parser_forms.specs.Settle.{statement_end, names_end}
 
 -- a state, where the word is the one that is due
-abbrev at_paren : State → Word → State
+abbrev pub at_paren : State → Word → State
 at_paren st w.LeftParen = st
 at_paren st _ = fail
 
-abbrev at_brace : State → Word → State
+abbrev pub at_brace : State → Word → State
 at_brace st w.LeftBrace = st
 at_brace st _ = fail
 
-abbrev at_colon : State → Word → State
+abbrev pub at_colon : State → Word → State
 at_colon st w.Colon = st
 at_colon st _ = fail
 
-abbrev at_close : State → Word → State
+abbrev pub at_close : State → Word → State
 at_close st w.RightParen = st
 at_close st _ = fail
 
-abbrev ident : ℕ → Text → Identifier
+abbrev pub ident : ℕ → Text → Identifier
 ident at text = record { at = at; name = text }
 
 -- Switches.
 
-abbrev case_due : Frames → Word → State
+abbrev pub case_due : Frames → Word → State
 case_due frames w.RightBrace = switch_end frames
 case_due frames word = case_start frames word
 
 -- The three parts of a `for`.
 
-abbrev for_head : Frames → Token → Word → State
+abbrev pub for_head : Frames → Token → Word → State
 for_head frames token w.Semicolon = statement_part (sd.ForTest p.head_nothing) frames
 for_head frames token w.Let = statement_part (sd.Name false none d.For) frames
 for_head frames token w.Const = statement_part (sd.Name true none d.For) frames
 for_head frames token _ = operand (f.Statement s.ForValue ∷ frames) token
 
-abbrev for_test : Frames → Sorted t.head → Token → Word → State
+abbrev pub for_test : Frames → Sorted t.head → Token → Word → State
 for_test frames head token w.Semicolon = statement_part (sd.ForStep head None) frames
 for_test frames head token _ = operand (f.Statement (s.ForTest head) ∷ frames) token
 
-abbrev for_step : Frames → Sorted t.head → Option (Sorted t.expression) → Token → Word → State
+abbrev pub for_step : Frames → Sorted t.head → Option (Sorted t.expression) → Token → Word → State
 for_step frames head test token w.RightParen = statement_due (f.Statement (s.For head test None) ∷ frames)
 for_step frames head test token _ = operand (f.Statement (s.ForStep head test) ∷ frames) token
 
 -- Declared names; `const` has an initialiser.
 
-abbrev name_due : Frames → Bool → Sorted (t.list t.declarator) → DeclareRole → TokenKind → ℕ → State
+abbrev pub name_due : Frames → Bool → Sorted (t.list t.declarator) → DeclareRole → TokenKind → ℕ → State
 name_due frames constant names stands (k.Name text) at = statement_part (sd.NameNext constant names stands (ident at text)) frames
 name_due frames constant names stands _ at = fail
 
-abbrev name_end : Frames → Sorted (t.list t.declarator) → DeclareRole → Token → Word → State
+abbrev pub name_end : Frames → Sorted (t.list t.declarator) → DeclareRole → Token → Word → State
 name_end frames names stands token w.Comma = statement_part (sd.Name false names stands) frames
 name_end frames names stands token _ = names_end frames false names stands token
 
-abbrev name_next : Frames → Bool → Sorted (t.list t.declarator) → DeclareRole → Identifier → Token → Word → State
+abbrev pub name_next : Frames → Bool → Sorted (t.list t.declarator) → DeclareRole → Identifier → Token → Word → State
 name_next frames constant names stands own token w.Assign = operand_due (f.Statement (s.Initialiser constant names stands own) ∷ frames)
 name_next frames false names stands own token word = name_end frames (and_then names (p.declarator own None)) stands token word
 name_next frames true names stands own token _ = fail
 
 -- Jumps, whose missing semicolon needs less.
 
-abbrev jump : Jump → ℕ → Semi → Sorted t.statement
+abbrev pub jump : Jump → ℕ → Semi → Sorted t.statement
 jump j.Break at mark = p.bare (t.Break at mark)
 jump j.Continue at mark = p.bare (t.Continue at mark)
 
-abbrev bare_may : Token → Bool
+abbrev pub bare_may : Token → Bool
 bare_may token = may_miss_bare (the_word token) token.line_before
 
-abbrev return_due : Frames → ℕ → Token → State
+abbrev pub return_due : Frames → ℕ → Token → State
 return_due frames at token =
     if is_semicolon (the_word token) || bare_may token then statement_end frames (p.return at None) (bare_may token) token (the_word token) else operand (f.Statement (s.Return at) ∷ frames) token
 
-abbrev throw_due : Frames → Token → State
+abbrev pub throw_due : Frames → Token → State
 throw_due frames token = if token.line_before then fail else operand (f.Statement s.Throw ∷ frames) token
 
 -- Try.
 
-abbrev guard_due : Frames → Sorted (t.list t.statement) → Word → State
+abbrev pub guard_due : Frames → Sorted (t.list t.statement) → Word → State
 guard_due frames block w.Catch = statement_part (sd.Catch block) frames
 guard_due frames block w.Finally = statement_part (sd.Brace (l.Finally block None None)) frames
 guard_due frames block _ = fail
 
-abbrev catch_due : Frames → Sorted (t.list t.statement) → Word → State
+abbrev pub catch_due : Frames → Sorted (t.list t.statement) → Word → State
 catch_due frames block w.LeftParen = statement_part (sd.CatchName block) frames
 catch_due frames block w.LeftBrace = statement_due (f.Statement (s.List (l.Catch block None) none) ∷ frames)
 catch_due frames block _ = fail
 
-abbrev catch_name : Frames → Sorted (t.list t.statement) → TokenKind → ℕ → State
+abbrev pub catch_name : Frames → Sorted (t.list t.statement) → TokenKind → ℕ → State
 catch_name frames block (k.Name text) at = statement_part (sd.CatchClose block (ident at text)) frames
 catch_name frames block _ at = fail
 
-abbrev finally_due : Frames → Sorted (t.list t.statement) → Option Identifier → Sorted (t.list t.statement) → Token → Word → State
+abbrev pub finally_due : Frames → Sorted (t.list t.statement) → Option Identifier → Sorted (t.list t.statement) → Token → Word → State
 finally_due frames block own catch token w.Finally = statement_part (sd.Brace (l.Finally block own (Some catch))) frames
 finally_due frames block own catch token _ = close frames (p.guarded block own (Some catch) None) token
 

@@ -83,7 +83,7 @@ prefix_of _ = None
 -- The level of the form that a word makes of an operand before it, 0 where it makes none. The callee
 -- of a `new` takes `.` and `[`, and leaves `(` to the `new`: so these two give one more than their form
 -- has. `line` says that a line break stands before the word: `=>`, `++` and `--` make nothing then.
-abbrev gives_other : Word → Bool → ℕ
+abbrev pub gives_other : Word → Bool → ℕ
 gives_other w.Arrow false = 2
 gives_other w.Question _ = 3
 gives_other w.PlusPlus false = 16
@@ -93,7 +93,7 @@ gives_other w.Point _ = 18
 gives_other w.LeftBracket _ = 18
 gives_other _ _ = 0
 
-abbrev gives_by : Option Infix → Option (Option BinaryOperator) → Word → Bool → ℕ
+abbrev pub gives_by : Option Infix → Option (Option BinaryOperator) → Word → Bool → ℕ
 gives_by (Some operator) assignment word line = infix_level operator
 gives_by None (Some operator) word line = 2
 gives_by None None word line = gives_other word line
@@ -188,12 +188,12 @@ ends w.RightBrace = true
 ends w.End = true
 ends _ = false
 
-abbrev is_some : {A : Type 0} → Option A → Bool
+abbrev pub is_some : {A : Type 0} → Option A → Bool
 is_some (Some a) = true
 is_some None = false
 
 -- what goes on with a statement after a line break
-abbrev goes_on_other : Word → Bool
+abbrev pub goes_on_other : Word → Bool
 goes_on_other w.Template = true
 goes_on_other w.LeftParen = true
 goes_on_other w.LeftBracket = true
