@@ -3,12 +3,13 @@
 ghost use Rattle.std.specs.Prelude.{◌≡◌};
 ghost use Rattle.es_model.specs.Levels.{left_level, right_level};
 ghost use Rattle.parser_forms.specs.declared.frame.Infix.TheVariants as i;
+ghost use Rattle.parser_forms.specs.declared.frame.Frame.TheVariants as f;
 ghost use Rattle.parser_forms.specs.Parts.{infix_level};
 ghost use Rattle.parser_forms.specs.Tables as t;
 
 use es_model::{BinaryOperator, UnaryOperator};
 use parser_forms::{
-    ExpressionFrame, Frame, Infix, ItemFrame, MemberFrame, Part, Prefix, StatementFrame, Word,
+    ExpressionFrame, Frame, Infix, ItemFrame, MemberFrame, Part, Prefix, Stack, StatementFrame, Word,
 };
 
 /// The operator between two operands that a word is.
@@ -149,4 +150,197 @@ pub fn gives(word: Word, line: bool) -> u8
         Some(_) => 2,
         None => gives_other(word, line),
     }
+}
+
+/// What the left operand of an operator has to be.
+pub fn is_left_of(operator: Infix, left: &Part) -> bool
+    ensures { result ≡ t.is_left_of operator left.now }
+{
+    match operator {
+        Infix::Binary(operator) => left_level(operator) <= left.level,
+        Infix::In => left.level >= 10,
+        Infix::InstanceOf => left.level >= 10,
+        Infix::And => left.level >= 5,
+        Infix::Or => left.level >= 4 && !left.is_nullish,
+        Infix::Nullish => left.is_nullish || left.level >= 6,
+        Infix::Comma => left.level >= 1,
+    }
+}
+
+// All operators group to the left but `**`.
+fn left_level(operator: BinaryOperator) -> u8
+    ensures { result ≡ left_level operator }
+{
+    match operator {
+        BinaryOperator::Power => 16,
+        _ => operator_level(operator),
+    }
+}
+
+fn right_level(operator: BinaryOperator) -> u8
+    ensures { result ≡ right_level operator }
+{
+    match operator {
+        BinaryOperator::Power => 14,
+        _ => operator_level(operator) + 1,
+    }
+}
+
+/// The least level of the right operand of an operator.
+pub fn right_of(operator: Infix) -> u8
+    ensures { result ≡ t.right_of operator }
+{
+    match operator {
+        Infix::Binary(operator) => right_level(operator),
+        Infix::In => 11,
+        Infix::InstanceOf => 11,
+        Infix::And => 6,
+        Infix::Or => 5,
+        Infix::Nullish => 6,
+        Infix::Comma => 2,
+    }
+}
+
+/// Whether a part may be what a call or a member form is made of.
+pub fn is_base(part: &Part) -> bool
+    ensures { result ≡ t.is_base part.now }
+{
+    part.level >= 17 && !part.is_bare_new
+}
+
+/// Whether a part may be the callee of a `new`.
+pub fn is_new_callee(part: &Part) -> bool
+    ensures { result ≡ t.is_new_callee part.now }
+{
+    part.level >= 17 && !part.has_call
+}
+
+fn expression_slot(frame: &ExpressionFrame) -> u8
+    ensures { result ≡ t.slot_of (f.Expression frame.now) }
+{
+    match frame {
+        ExpressionFrame::Paren { .. } => 1,
+        ExpressionFrame::Infix { operator, .. } => right_of(*operator),
+        ExpressionFrame::Prefix { .. } => 15,
+        ExpressionFrame::Update { .. } => 17,
+        ExpressionFrame::New { .. } => 18,
+        ExpressionFrame::Yes { .. } => 2,
+        ExpressionFrame::No { .. } => 2,
+        ExpressionFrame::Assign { .. } => 2,
+        ExpressionFrame::Arrow { .. } => 2,
+        ExpressionFrame::Arguments { .. } => 2,
+        ExpressionFrame::Array { .. } => 2,
+        ExpressionFrame::Index { .. } => 1,
+        ExpressionFrame::SuperIndex { .. } => 1,
+        ExpressionFrame::Template { .. } => 1,
+    }
+}
+
+fn member_slot(frame: &MemberFrame) -> u8
+    ensures { result ≡ t.slot_of (f.Member frame.now) }
+{
+    match frame {
+        MemberFrame::Object { .. } => 100,
+        MemberFrame::Class { .. } => 100,
+        MemberFrame::Parent { .. } => 17,
+        MemberFrame::Key { .. } => 2,
+        MemberFrame::Value { .. } => 2,
+    }
+}
+
+fn statement_slot(frame: &StatementFrame) -> u8
+    ensures { result ≡ t.slot_of (f.Statement frame.now) }
+{
+    match frame {
+        StatementFrame::Value => 1,
+        StatementFrame::Initialiser { .. } => 2,
+        StatementFrame::Test(_) => 1,
+        StatementFrame::DoTest { .. } => 1,
+        StatementFrame::ForValue => 1,
+        StatementFrame::ForTest { .. } => 1,
+        StatementFrame::ForStep { .. } => 1,
+        StatementFrame::Return { .. } => 1,
+        StatementFrame::Throw => 1,
+        StatementFrame::CaseTest => 1,
+        _ => 100,
+    }
+}
+
+/// The least level of the expression that an open form waits for, 100 where it waits for none.
+pub fn slot_of(frame: &Frame) -> u8
+    ensures { result ≡ t.slot_of frame.now }
+{
+    match frame {
+        Frame::Expression(frame) => expression_slot(frame),
+        Frame::Member(frame) => member_slot(frame),
+        Frame::Statement(frame) => statement_slot(frame),
+        Frame::Item(ItemFrame::Default { .. }) => 2,
+        Frame::Item(_) => 100,
+    }
+}
+
+/// The least level of the expression that the innermost form waits for.
+pub fn slot(stack: &Stack<Frame>) -> u8
+    ensures { result ≡ t.slot stack.now }
+{
+    match stack.top() {
+        Some(frame) => slot_of(frame),
+        None => 100,
+    }
+}
+
+/// Whether an expression goes on with a word in an open form.
+pub fn goes_on_in(frame: &Frame, word: Word, line: bool) -> bool
+    ensures { result ≡ t.goes_on_in frame.now word line }
+{
+    slot_of(frame) <= gives(word, line)
+}
+
+/// Whether a word is a semicolon.
+pub fn is_semicolon(word: Word) -> bool
+    ensures { result ≡ t.is_semicolon word }
+{
+    matches!(word, Word::Semicolon)
+}
+
+fn ends(word: Word) -> bool
+    ensures { result ≡ t.ends word }
+{
+    matches!(word, Word::RightBrace | Word::End)
+}
+
+fn goes_on_other(word: Word) -> bool
+    ensures { result ≡ t.goes_on_other word }
+{
+    match word {
+        Word::Template => true,
+        Word::LeftParen => true,
+        Word::LeftBracket => true,
+        Word::Point => true,
+        Word::Question => true,
+        Word::Colon => true,
+        Word::Arrow => true,
+        _ => false,
+    }
+}
+
+// Whether a word goes on with a statement after a line break.
+fn goes_on(word: Word) -> bool
+    ensures { result ≡ t.goes_on word }
+{
+    infix_of(word).is_some() || assignment_of(word).is_some() || goes_on_other(word)
+}
+
+/// Whether a semicolon may be missing before a word (own rule).
+pub fn may_miss(word: Word, line: bool) -> bool
+    ensures { result ≡ t.may_miss word line }
+{
+    ends(word) || (line && !is_semicolon(word) && !goes_on(word))
+}
+
+/// Whether the semicolon of a statement that is one word may be missing (own rule).
+pub fn may_miss_bare(word: Word, line: bool) -> bool
+    ensures { result ≡ t.may_miss_bare word line }
+{
+    ends(word) || (line && !is_semicolon(word))
 }

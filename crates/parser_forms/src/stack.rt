@@ -1,4 +1,4 @@
-ghost use Rattle.std.specs.Prelude.{◌≡◌, [], ◌∷◌, MatchOption};
+ghost use Rattle.std.specs.Prelude.{◌≡◌, List, [], ◌∷◌, MatchOption};
 ghost use Rattle.std.specs.Result.{OnOk, OnErr};
 
 use std::alloc::{AllocError, Global};
@@ -31,6 +31,13 @@ impl<T> Stack<T> {
         Stack {
             items: Vec::new(alloc),
         }
+    }
+
+    /// The one on top; None where there is none.
+    pub fn top(&self) -> Option<&T>
+        ensures { MatchOption result (self.now ≡ []) (λ top. (rest : List T) × (self.now ≡ top.now ∷ rest)) }
+    {
+        self.items.as_slice().last()
     }
 
     /// Takes the one on top; None where there is none.
