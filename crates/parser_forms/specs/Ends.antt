@@ -1,5 +1,5 @@
 -- What is done where a form is complete and no token is left over: it is put into the form round it.
-use Rattle.std.specs.Prelude.{ℕ, Bool, true, false, List, [], ◌∷◌, Option, Some, None}
+use Rattle.std.specs.Prelude.{ℕ, Bool, true, false, ◌||◌, List, [], ◌∷◌, Option, Some, None}
 use Rattle.es_model.specs.declared.kinds.FunctionKind.{FunctionKind}
 use Rattle.es_model.specs.declared.kinds.FunctionKind.TheVariants as kind
 use Rattle.es_model.specs.declared.kinds.MemberKind.{MemberKind}
@@ -93,15 +93,21 @@ abbrev pub switch_end : Frames → State
 switch_end (f.Statement (s.Switch of cases has_default) ∷ frames) = put frames (p.switch of cases)
 switch_end _ = fail
 
+-- a case with no test is the default
+abbrev pub is_default : Option (Sorted t.expression) → Bool
+is_default None = true
+is_default (Some test) = false
+
 -- the last case of a switch, with the statements that stand in it
 abbrev pub with_case : Option (Sorted t.expression) → Sorted (t.list t.statement) → Frames → Frames
-with_case test body (f.Statement (s.Switch of cases has_default) ∷ frames) = f.Statement (s.Switch of (and_then cases (p.case test body)) has_default) ∷ frames
+with_case test body (f.Statement (s.Switch of cases has_default) ∷ frames) =
+    f.Statement (s.Switch of (and_then cases (p.case test body)) (has_default || is_default test)) ∷ frames
 with_case test body frames = frames
 
 -- `case` and `default` in a switch; `default` stands in it once
 abbrev pub case_start : Frames → Word → State
 case_start (f.Statement (s.Switch of cases has_default) ∷ frames) w.Case = operand_due (f.Statement s.CaseTest ∷ f.Statement (s.Switch of cases has_default) ∷ frames)
-case_start (f.Statement (s.Switch of cases false) ∷ frames) w.Default = statement_part sd.CaseColon (f.Statement (s.Switch of cases true) ∷ frames)
+case_start (f.Statement (s.Switch of cases false) ∷ frames) w.Default = statement_part sd.CaseColon (f.Statement (s.Switch of cases false) ∷ frames)
 case_start _ _ = fail
 
 abbrev pub next_case : Frames → Word → State
