@@ -1,2 +1,5 @@
 pub mod FormLaws
 pub mod WordLaws
+pub mod CompleteBase
+pub mod CompleteOperands
+pub mod CompleteOperators
