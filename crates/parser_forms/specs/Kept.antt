@@ -1,5 +1,6 @@
 -- What is kept of a tree that was read: the tree where its nesting is at most 64, and the nesting cut at 65.
-use Rattle.std.specs.Prelude.{ℕ, ◌+◌, max, Option, Some, None, nat_lt, nat_le, if◌then◌else◌}
+use Rattle.std.specs.Prelude.{ℕ, ◌+◌, max, Option, Some, None, Box, nat_lt, nat_le, if◌then◌else◌}
+use Rattle.std.specs.declared.alloc.Global.{Global}
 use Rattle.es_model.specs.Tree as t
 use Rattle.es_model.specs.Tree.{Tree}
 use Rattle.parser_forms.specs.declared.parts.Kept.{Kept}
@@ -52,3 +53,11 @@ none = flat t.none
 
 abbrev pub and_then : {s : t.Sort} → Sorted (t.list s) → Sorted s → Sorted (t.list s)
 and_then list last = both followed list last
+
+-- Of what the code holds: a tree that may be left out, and one in a box.
+abbrev pub left_out : {A : Type 0} → Option (Kept A) → Kept (Option A)
+left_out None = flat None
+left_out (Some a) = around Some a
+
+abbrev pub unboxed : {A : Type 0} → Kept (Box A Global) → Kept A
+unboxed a = around (λ box. box.value) a

@@ -2,25 +2,33 @@
 //! words that tokens are.
 #![tactic(auto)]
 
-mod expressions;
 mod frame;
+mod keeping;
+mod operands;
 mod parts;
 mod stack;
 #[cfg(test)]
 mod tests;
+mod texts;
 mod trees;
 mod words;
 
-pub use expressions::{literal, lose_tree, paren, raise};
 pub use frame::{
     Callee, ClassStart, Control, DeclareRole, ExpressionDue, ExpressionFrame, Frame, Infix,
     ItemDue, ItemFrame, Jump, KeyPart, ListRole, MemberDue, MemberFrame, MemberStart, Opening,
     PairRole, Prefix, Role, Signature, StatementDue, StatementFrame,
 };
+pub use keeping::{lose, raise};
+pub use operands::{
+    array, arrow_expression, bare_new, call, called, class_expression, dot, function_expression,
+    index, literal, name, new_call, object, paren, plain, super_call, super_dot, super_index,
+    template,
+};
 pub use parts::{Heading, Kept, Literal, Part};
 pub use stack::Stack;
+pub use texts::{copy_of, is_text, same_name};
 pub use trees::{
-    Cases, ClassTree, Declarators, DefaultTree, Expressions, FunctionTree, HeadTree, Items,
-    KeyTree, Members, Statements,
+    CaseTree, Cases, ClassTree, DeclaratorTree, Declarators, DefaultTree, Expressions,
+    FunctionTree, HeadTree, ItemTree, Items, KeyTree, MemberTree, Members, Statements,
 };
 pub use words::{Word, word_of_kind};

@@ -205,3 +205,75 @@ impl Model for DefaultTree {
 
     ghost view = { λ a. default_of a.tree };
 }
+
+/// A member of an object literal or a class. Contracts see it as a tree.
+#[derive(Drop)]
+pub struct MemberTree {
+    pub tree: Member,
+}
+
+impl Model for MemberTree {
+    ghost use Rattle.es_model.specs.Tree.{Tree, member};
+    ghost use Rattle.es_model.specs.Codes.{code_of};
+    ghost use Rattle.es_model.specs.View.{member_of};
+
+    ghost Value = { Tree member };
+
+    ghost coded = { code_of member };
+
+    ghost view = { λ a. member_of a.tree };
+}
+
+/// A name with its initialiser. Contracts see it as a tree.
+#[derive(Drop)]
+pub struct DeclaratorTree {
+    pub tree: Declarator,
+}
+
+impl Model for DeclaratorTree {
+    ghost use Rattle.es_model.specs.Tree.{Tree, declarator};
+    ghost use Rattle.es_model.specs.Codes.{code_of};
+    ghost use Rattle.es_model.specs.View.{declarator_of};
+
+    ghost Value = { Tree declarator };
+
+    ghost coded = { code_of declarator };
+
+    ghost view = { λ a. declarator_of a.tree };
+}
+
+/// A case of a switch. Contracts see it as a tree.
+#[derive(Drop)]
+pub struct CaseTree {
+    pub tree: Case,
+}
+
+impl Model for CaseTree {
+    ghost use Rattle.es_model.specs.Tree.{Tree, case};
+    ghost use Rattle.es_model.specs.Codes.{code_of};
+    ghost use Rattle.es_model.specs.View.{case_of};
+
+    ghost Value = { Tree case };
+
+    ghost coded = { code_of case };
+
+    ghost view = { λ a. case_of a.tree };
+}
+
+/// An item of a module. Contracts see it as a tree.
+#[derive(Drop)]
+pub struct ItemTree {
+    pub tree: Item,
+}
+
+impl Model for ItemTree {
+    ghost use Rattle.es_model.specs.Tree.{Tree, item};
+    ghost use Rattle.es_model.specs.Codes.{code_of};
+    ghost use Rattle.es_model.specs.ModuleView.{item_of};
+
+    ghost Value = { Tree item };
+
+    ghost coded = { code_of item };
+
+    ghost view = { λ a. item_of a.tree };
+}
