@@ -67,11 +67,11 @@ reads_paren of reads from to d frames fits follow =
 
 -- Member forms.
 
-is_base_of : (at : ℕ) (of : Tree t.expression) → 17 ≤ level of → is_bare_new of ≡ false → is_base (part_of at of) ≡ true
+pub is_base_of : (at : ℕ) (of : Tree t.expression) → 17 ≤ level of → is_bare_new of ≡ false → is_base (part_of at of) ≡ true
 is_base_of at of h c = and_from _ _ (le-leb _ _ h) (ap not c)
 
 -- what holds a member form holds what it is made of
-grips_base : (of : Tree t.expression) → 17 ≤ level of → grip_by true (has_call of) 17 ≤ grip of
+pub grips_base : (of : Tree t.expression) → 17 ≤ level of → grip_by true (has_call of) 17 ≤ grip of
 grips_base of h = by (has_call of) refl
   where
     by : (x : Bool) → has_call of ≡ x → grip_by true x 17 ≤ grip of
@@ -124,7 +124,7 @@ reads_super_index at key reads from to d frames fits follow =
 
 -- `new` without arguments
 
-is_callee_of : (at : ℕ) (of : Tree t.expression) → 17 ≤ level of → has_call of ≡ false → is_new_callee (part_of at of) ≡ true
+pub is_callee_of : (at : ℕ) (of : Tree t.expression) → 17 ≤ level of → has_call of ≡ false → is_new_callee (part_of at of) ≡ true
 is_callee_of at of h c = and_from _ _ (le-leb _ _ h) (ap not c)
 
 bare_end : (arguments bare : State) (part : Part) (word : Word) (line : Bool) → needs word line ≤ 16 → new_end arguments bare part word ≡ bare
