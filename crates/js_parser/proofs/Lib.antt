@@ -5,3 +5,6 @@ pub mod CompleteOperands
 pub mod CompleteOperators
 pub mod CompleteLists
 pub mod CompleteFirst
+pub mod SoundLists
+pub mod SoundStates
+pub mod SoundForms

@@ -9,7 +9,8 @@ ghost use Rattle.parser_forms.specs.Tables as t;
 
 use es_model::{BinaryOperator, UnaryOperator};
 use parser_forms::{
-    ExpressionFrame, Frame, Infix, ItemFrame, MemberFrame, Part, Prefix, Stack, StatementFrame, Word,
+    ExpressionFrame, Frame, Infix, ItemFrame, MemberFrame, Part, Prefix, Stack, StatementFrame,
+    Word,
 };
 
 /// The operator between two operands that a word is.
