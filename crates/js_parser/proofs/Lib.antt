@@ -8,3 +8,5 @@ pub mod CompleteFirst
 pub mod SoundLists
 pub mod SoundStates
 pub mod SoundForms
+pub mod SoundMemberForms
+pub mod SoundStatementForms
