@@ -12,3 +12,4 @@ pub mod ItemMisses
 pub mod DepthRows
 pub mod WordRows
 pub mod Laws
+pub mod ListLaws

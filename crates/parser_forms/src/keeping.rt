@@ -106,6 +106,20 @@ pub fn two_boxes<A: Drop, B: Drop>(
     Ok((first, second))
 }
 
+/// Three trees in boxes.
+pub fn three_boxes<A: Drop, B: Drop, C: Drop>(
+    alloc: Global,
+    first: A,
+    second: B,
+    third: C,
+) -> Result<(Box<A>, Box<B>, Box<C>), AllocError>
+    ensures { IfOk result (λ made. (made.0.value ≡ first) × (made.1.value ≡ second) × (made.2.value ≡ third)) }
+{
+    let (first, second) = two_boxes(alloc, first, second)?;
+    let (third, (first, second)) = box_beside(alloc, third, (first, second))?;
+    Ok((first, second, third))
+}
+
 /// A tree in a box, and something beside it as it is, which is dropped where memory is wanting.
 pub fn box_beside<A: Drop, B: Drop>(
     alloc: Global,

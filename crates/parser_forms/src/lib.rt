@@ -4,7 +4,9 @@
 
 mod frame;
 mod keeping;
+mod lists;
 mod operands;
+mod operators;
 mod parts;
 mod stack;
 #[cfg(test)]
@@ -19,10 +21,17 @@ pub use frame::{
     PairRole, Prefix, Role, Signature, StatementDue, StatementFrame,
 };
 pub use keeping::{lose, raise};
+pub use lists::{
+    and_case, and_declarator, and_expression, and_item, and_member, and_statement, no_cases,
+    no_declarators, no_expressions, no_items, no_members, no_statements,
+};
 pub use operands::{
     array, arrow_expression, bare_new, call, called, class_expression, dot, function_expression,
     index, literal, name, new_call, object, paren, plain, super_call, super_dot, super_index,
     template,
+};
+pub use operators::{
+    assign, conditional, infix_level, operation, prefix_form, update_before, update_behind,
 };
 pub use parts::{Heading, Kept, Literal, Part};
 pub use stack::Stack;
