@@ -48,11 +48,11 @@ abbrev pub Starts : (Word → Bool) → Tokens → Type 0
 Starts test [] = ⊥
 Starts test (token ∷ tokens) = test (the_word token) ≡ true
 
-starts_at : (test : Word → Bool) (kind : TokenKind) → test (word_of kind) ≡ true → (from to : Tokens) → One (λ token. token.kind ≡ kind) from to → Starts test from
+pub starts_at : (test : Word → Bool) (kind : TokenKind) → test (word_of kind) ≡ true → (from to : Tokens) → One (λ token. token.kind ≡ kind) from to → Starts test from
 starts_at test kind h [] to d = absurd d
 starts_at test kind h (token ∷ tokens) to d = subst (λ other. test (word_of other) ≡ true) (sym d.0) h
 
-starts_name : (test : Word → Bool) → test w.Name ≡ true → (one : Identifier) (from to : Tokens) → name one from to → Starts test from
+pub starts_name : (test : Word → Bool) → test w.Name ≡ true → (one : Identifier) (from to : Tokens) → name one from to → Starts test from
 starts_name test h one [] to d = absurd d
 starts_name test h one (token ∷ tokens) to d = subst (λ other. test (word_of other) ≡ true) (sym d.0.0) h
 

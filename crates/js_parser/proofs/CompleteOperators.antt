@@ -156,7 +156,7 @@ reads_comma left right reads_left reads_right from to d frames fits follow =
 
 -- Conditionals and assignments, whose last operand is as loose as an assignment.
 
-assign_ends : (n : ℕ) → n ≤ 3 → (word : Word) (line : Bool) → needs word line ≤ n → gives word line < 2
+pub assign_ends : (n : ℕ) → n ≤ 3 → (word : Word) (line : Bool) → needs word line ≤ n → gives word line < 2
 assign_ends n h word line c = let low : gives word line ≤ 1 = gives_comma word line (omega arith) in omega arith
 
 pub reads_conditional : (test one other : Tree t.expression) → Reads test → Reads one → Reads other → Reads (t.Conditional test one other)

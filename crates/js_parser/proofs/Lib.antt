@@ -10,3 +10,8 @@ pub mod SoundStates
 pub mod SoundForms
 pub mod SoundMemberForms
 pub mod SoundStatementForms
+pub mod CompleteClaims
+pub mod CompleteFunctions
+pub mod CompleteKeys
+pub mod CompleteMembers
+pub mod CompleteClasses
