@@ -49,14 +49,15 @@ item_end frames one may token _ = if may then close_item frames (one semi.Missin
 abbrev pub may : Token → Bool
 may token = may_miss (the_word token) token.line_before
 
+-- a state, where the word is the one that is due
+abbrev pub at_semicolon : State → Word → State
+at_semicolon st w.Semicolon = st
+at_semicolon st _ = fail
+
 -- Declared names end with a semicolon, in a `for` with one that is written.
 abbrev pub names_end : Frames → Bool → Sorted (t.list t.declarator) → DeclareRole → Token → State
 names_end frames constant names d.Statement token = statement_end frames (p.declare constant names) (may token) token (the_word token)
-names_end frames constant names d.For token = for_names (the_word token)
-  where
-    for_names : Word → State
-    for_names w.Semicolon = statement_part (sd.ForTest (p.head_declare constant names)) frames
-    for_names _ = fail
+names_end frames constant names d.For token = at_semicolon (statement_part (sd.ForTest (p.head_declare constant names)) frames) (the_word token)
 
 -- A token goes on with an expression.
 
@@ -111,10 +112,6 @@ at_bracket st _ = fail
 abbrev pub at_colon : State → Word → State
 at_colon st w.Colon = st
 at_colon st _ = fail
-
-abbrev pub at_semicolon : State → Word → State
-at_semicolon st w.Semicolon = st
-at_semicolon st _ = fail
 
 abbrev pub at_brace : State → Word → State
 at_brace st w.LeftBrace = st
