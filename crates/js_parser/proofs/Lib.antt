@@ -15,3 +15,6 @@ pub mod CompleteFunctions
 pub mod CompleteKeys
 pub mod CompleteMembers
 pub mod CompleteClasses
+pub mod SoundHeads
+pub mod SoundEnds
+pub mod SoundBegins

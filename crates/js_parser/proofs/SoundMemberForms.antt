@@ -25,7 +25,7 @@ use Rattle.parser_forms.proofs.Laws.{cut_none, cut_and_then}
 use Rattle.js_parser.specs.Summary.{key_of}
 use Rattle.js_parser.proofs.FormLaws as laws
 use Rattle.js_parser.proofs.SoundLists.{grown, members_last, members_comma, class_semicolon, class_more}
-use Rattle.js_parser.proofs.SoundStates.{Read, ReadMembers, ReadJoined, ReadInClass, ReadMember, ReadClass, ReadParent, ReadLine, ReadItem, ReadBraces, StartTaken, ParametersTaken, MemberOpen, IsOfFunction, ◌⊳◌}
+use Rattle.js_parser.proofs.SoundStates.{Read, ReadKey, ReadMembers, ReadJoined, ReadInClass, ReadMember, ReadClass, ReadParent, ReadLine, ReadItem, ReadBraces, StartTaken, ParametersTaken, MemberOpen, IsOfFunction, ◌⊳◌}
 
 -- Functions.
 
@@ -125,6 +125,11 @@ pub r_class_method : (derived : Bool) (start : MemberStart) (list : List Identif
 r_class_method derived start list body from a to ok taken read =
     method_read (InClass derived) start (ends.method_kind start.kind start.fixed start.key.is_constructor derived) list body from a to ok refl
     (λ key q. ap (λ u. ends.method_kind start.kind start.fixed u.is_constructor derived) (sym q) ∙ due_in_class start.kind start.fixed derived key ok) taken read
+
+pub r_computed_key : (part : Part) (from a b to : Tokens) → the "[" from a → Read part a b → 2 ≤ part.level → the "]" b to → ReadKey (p.computed_key part) from to
+unfolding Spells
+r_computed_key part from a b to o (e, q, w, r) h c =
+    (t.KeyComputed e, sym (laws.computed_key_is part.at e) ∙ ap p.computed_key q, (a, o, (b, (subst (λ v. 2 ≤ v.level) (sym q) h, r), c)))
 
 no_static : (fixed : Bool) (from to : Tokens) → fixed ≡ false → static_before fixed from to → from ≡ to
 no_static false from to e h = h

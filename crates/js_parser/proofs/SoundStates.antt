@@ -177,9 +177,10 @@ abbrev pub StartTaken : MemberStart → Reading
 StartTaken start = here start.at (static_before start.fixed ▸ accessor_word start.kind ▸ ReadKey start.key)
 
 -- a name that may stand alone as a member
-abbrev pub ShortIs : Bool → MemberKind → Option Identifier → Reading
-ShortIs false kind.Method (Some one) from to = name one from to
-ShortIs _ _ _ from to = Unit {0}
+abbrev pub ShortIs : Option Identifier → Bool → MemberKind → Reading
+ShortIs None fixed kind from to = Unit {0}
+ShortIs (Some one) false kind.Method from to = name one from to
+ShortIs (Some one) _ _ from to = Unit {0}
 
 abbrev pub SignatureTaken : Signature → Reading
 SignatureTaken (g.Function at own stands) = FunctionHead at own stands
@@ -481,7 +482,7 @@ MemberTaken md.Member = nothing
 MemberTaken md.Next = never
 MemberTaken (md.Fixed at) = here at (the "static")
 MemberTaken (md.Accessor at fixed kind one) = here at (static_before fixed ▸ name one)
-MemberTaken (md.Key start short) = λ from to. StartTaken start from to × ShortIs start.fixed start.kind short from to
+MemberTaken (md.Key start short) = λ from to. StartTaken start from to × ShortIs short start.fixed start.kind from to
 MemberTaken (md.FunctionName at stands) = BehindRole stands (here at (the "function"))
 MemberTaken (md.Parameters signature) = SignatureTaken signature
 MemberTaken (md.Parameter signature list) = SignatureTaken signature ⊳ the "(" ⊳ PartParameters (kind_of signature) list

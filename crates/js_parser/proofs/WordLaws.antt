@@ -354,7 +354,7 @@ abbrev pub IsAssignment : Option (Option BinaryOperator) → TokenKind → Type 
 IsAssignment (Some operator) kind = IsSign (assignment_sign operator) kind
 IsAssignment None kind = Unit {0}
 
-infix_word : (word : Word) (kind : TokenKind) → Is word kind → IsInfix (t.infix_of word) kind
+pub infix_word : (word : Word) (kind : TokenKind) → Is word kind → IsInfix (t.infix_of word) kind
 infix_word w.Plus kind e = e
 infix_word w.Minus kind e = e
 infix_word w.Star kind e = e
@@ -386,7 +386,7 @@ infix_word _ kind e = tt
 pub infix_is : (token : Token) → IsInfix (t.infix_of (the_word token)) token.kind
 infix_is token = infix_word (the_word token) token.kind (kind_is token.kind)
 
-assignment_word : (word : Word) (kind : TokenKind) → Is word kind → IsAssignment (t.assignment_of word) kind
+pub assignment_word : (word : Word) (kind : TokenKind) → Is word kind → IsAssignment (t.assignment_of word) kind
 assignment_word w.Assign kind e = e
 assignment_word w.PlusAssign kind e = e
 assignment_word w.MinusAssign kind e = e
@@ -405,7 +405,7 @@ assignment_word _ kind e = tt
 pub assignment_is : (token : Token) → IsAssignment (t.assignment_of (the_word token)) token.kind
 assignment_is token = assignment_word (the_word token) token.kind (kind_is token.kind)
 
-prefix_word : (word : Word) (kind : TokenKind) → Is word kind → IsPrefix (t.prefix_of word) kind
+pub prefix_word : (word : Word) (kind : TokenKind) → Is word kind → IsPrefix (t.prefix_of word) kind
 prefix_word w.Exclamation kind e = e
 prefix_word w.Minus kind e = e
 prefix_word w.Plus kind e = e
