@@ -1,3 +1,8 @@
+pub mod Moved
+pub mod MovedWords
+pub mod MovedTrees
+pub mod MovedForms
+pub mod Theorem
 pub mod FormLaws
 pub mod WordLaws
 pub mod CompleteBase
