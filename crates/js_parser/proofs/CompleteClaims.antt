@@ -23,11 +23,11 @@ use Rattle.js_parser.proofs.CompleteBase.{takes, place, line, Reads, Each, Maybe
 use Rattle.js_parser.proofs.CompleteFirst.{Starts, starts_at, is_behind, first_statement}
 
 -- what the next token may be behind a statement: no `finally`, and no `else` where the statement ends in an If without one
-abbrev is_else : Word → Bool
+abbrev pub is_else : Word → Bool
 is_else w.Else = true
 is_else _ = false
 
-abbrev is_guard : Word → Bool
+abbrev pub is_guard : Word → Bool
 is_guard w.Finally = true
 is_guard _ = false
 
@@ -35,7 +35,7 @@ abbrev pub Behind : Bool → Tokens → Type 0
 Behind short [] = ⊥
 Behind short (token ∷ tokens) = (is_guard (the_word token) ≡ false) × (short ≡ true → is_else (the_word token) ≡ false)
 
-starts_behind : (from : Tokens) → Starts is_behind from → Behind true from
+pub starts_behind : (from : Tokens) → Starts is_behind from → Behind true from
 starts_behind [] d = d
 starts_behind (token ∷ tokens) d = (guard (the_word token) d, λ e. else (the_word token) d)
   where

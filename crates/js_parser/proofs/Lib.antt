@@ -23,3 +23,5 @@ pub mod CompleteClasses
 pub mod SoundHeads
 pub mod SoundEnds
 pub mod SoundBegins
+pub mod CompleteEnds
+pub mod CompleteStatements
