@@ -61,3 +61,7 @@ left_out (Some a) = around Some a
 
 abbrev pub unboxed : {A : Type 0} → Kept (Box A Global) → Kept A
 unboxed a = around (λ box. box.value) a
+
+abbrev pub given : {s : t.Sort} → Option (Tree s) → Tree (t.option s)
+given None = t.absent
+given (Some a) = t.present a

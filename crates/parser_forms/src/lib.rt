@@ -3,41 +3,140 @@
 #![tactic(auto)]
 
 mod frame;
+mod functions;
+mod items;
 mod keeping;
 mod lists;
+mod members;
 mod operands;
 mod operators;
 mod parts;
 mod stack;
+mod statements;
 #[cfg(test)]
 mod tests;
 mod texts;
 mod trees;
 mod words;
 
-pub use frame::{
-    Callee, ClassStart, Control, DeclareRole, ExpressionDue, ExpressionFrame, Frame, Infix,
-    ItemDue, ItemFrame, Jump, KeyPart, ListRole, MemberDue, MemberFrame, MemberStart, Opening,
-    PairRole, Prefix, Role, Signature, StatementDue, StatementFrame,
-};
-pub use keeping::{lose, raise};
-pub use lists::{
-    and_case, and_declarator, and_expression, and_item, and_member, and_statement, no_cases,
-    no_declarators, no_expressions, no_items, no_members, no_statements,
-};
-pub use operands::{
-    array, arrow_expression, bare_new, call, called, class_expression, dot, function_expression,
-    index, literal, name, new_call, object, paren, plain, super_call, super_dot, super_index,
-    template,
-};
-pub use operators::{
-    assign, conditional, infix_level, operation, prefix_form, update_before, update_behind,
-};
-pub use parts::{Heading, Kept, Literal, Part};
+pub use frame::Callee;
+pub use frame::ClassStart;
+pub use frame::Control;
+pub use frame::DeclareRole;
+pub use frame::ExpressionDue;
+pub use frame::ExpressionFrame;
+pub use frame::Frame;
+pub use frame::Infix;
+pub use frame::ItemDue;
+pub use frame::ItemFrame;
+pub use frame::Jump;
+pub use frame::KeyPart;
+pub use frame::ListRole;
+pub use frame::MemberDue;
+pub use frame::MemberFrame;
+pub use frame::MemberStart;
+pub use frame::Opening;
+pub use frame::PairRole;
+pub use frame::Prefix;
+pub use frame::Role;
+pub use frame::Signature;
+pub use frame::StatementDue;
+pub use frame::StatementFrame;
+pub use functions::arrow;
+pub use functions::class;
+pub use functions::function;
+pub use items::bare_item;
+pub use items::default_class;
+pub use items::default_function;
+pub use items::default_value;
+pub use items::exported_item;
+pub use items::plain_item;
+pub use keeping::lose;
+pub use keeping::raise;
+pub use lists::and_case;
+pub use lists::and_declarator;
+pub use lists::and_expression;
+pub use lists::and_item;
+pub use lists::and_member;
+pub use lists::and_statement;
+pub use lists::no_cases;
+pub use lists::no_declarators;
+pub use lists::no_expressions;
+pub use lists::no_items;
+pub use lists::no_members;
+pub use lists::no_statements;
+pub use members::computed_key;
+pub use members::function_member;
+pub use members::key;
+pub use members::short_member;
+pub use members::value_member;
+pub use operands::array;
+pub use operands::arrow_expression;
+pub use operands::bare_new;
+pub use operands::call;
+pub use operands::called;
+pub use operands::class_expression;
+pub use operands::dot;
+pub use operands::function_expression;
+pub use operands::index;
+pub use operands::literal;
+pub use operands::name;
+pub use operands::new_call;
+pub use operands::object;
+pub use operands::paren;
+pub use operands::plain;
+pub use operands::super_call;
+pub use operands::super_dot;
+pub use operands::super_index;
+pub use operands::template;
+pub use operators::assign;
+pub use operators::conditional;
+pub use operators::infix_level;
+pub use operators::operation;
+pub use operators::prefix_form;
+pub use operators::update_before;
+pub use operators::update_behind;
+pub use parts::Heading;
+pub use parts::Kept;
+pub use parts::Literal;
+pub use parts::Part;
 pub use stack::Stack;
-pub use texts::{copy_of, is_text, same_name};
-pub use trees::{
-    CaseTree, Cases, ClassTree, DeclaratorTree, Declarators, DefaultTree, Expressions,
-    FunctionTree, HeadTree, ItemTree, Items, KeyTree, MemberTree, Members, Statements,
-};
-pub use words::{Word, word_of_kind};
+pub use statements::bare;
+pub use statements::block;
+pub use statements::case;
+pub use statements::choice;
+pub use statements::class_statement;
+pub use statements::declarator;
+pub use statements::declare;
+pub use statements::do_loop;
+pub use statements::for_loop;
+pub use statements::function_statement;
+pub use statements::guarded;
+pub use statements::head_declare;
+pub use statements::head_nothing;
+pub use statements::head_value;
+pub use statements::return_statement;
+pub use statements::switch;
+pub use statements::throw;
+pub use statements::value;
+pub use statements::while_loop;
+pub use texts::copy_of;
+pub use texts::is_text;
+pub use texts::same_name;
+pub use trees::CaseTree;
+pub use trees::Cases;
+pub use trees::ClassTree;
+pub use trees::DeclaratorTree;
+pub use trees::Declarators;
+pub use trees::DefaultTree;
+pub use trees::Expressions;
+pub use trees::FunctionTree;
+pub use trees::HeadTree;
+pub use trees::ItemTree;
+pub use trees::Items;
+pub use trees::KeyTree;
+pub use trees::MemberTree;
+pub use trees::Members;
+pub use trees::Statements;
+pub use words::Word;
+pub use words::word_of_kind;

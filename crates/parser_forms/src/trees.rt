@@ -277,3 +277,39 @@ impl Model for ItemTree {
 
     ghost view = { λ a. item_of a.tree };
 }
+
+/// An expression that may be left out. Contracts see it as a tree.
+#[derive(Drop)]
+pub struct OptionalExpression {
+    pub tree: Option<Expression>,
+}
+
+impl Model for OptionalExpression {
+    ghost use Rattle.es_model.specs.Tree.{Tree, expression, option};
+    ghost use Rattle.es_model.specs.Codes.{code_of};
+    ghost use Rattle.parser_forms.specs.Kept.{given};
+
+    ghost Value = { Tree (option expression) };
+
+    ghost coded = { code_of (option expression) };
+
+    ghost view = { λ a. given a.tree };
+}
+
+/// A list of statements that may be left out. Contracts see it as a tree.
+#[derive(Drop)]
+pub struct OptionalStatements {
+    pub trees: Option<TreeList<Statement>>,
+}
+
+impl Model for OptionalStatements {
+    ghost use Rattle.es_model.specs.Tree.{Tree, statement, list, option};
+    ghost use Rattle.es_model.specs.Codes.{code_of};
+    ghost use Rattle.es_model.specs.View.{optional_list};
+
+    ghost Value = { Tree (option (list statement)) };
+
+    ghost coded = { code_of (option (list statement)) };
+
+    ghost view = { λ a. optional_list a.trees };
+}
