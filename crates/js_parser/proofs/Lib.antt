@@ -25,3 +25,5 @@ pub mod SoundEnds
 pub mod SoundBegins
 pub mod CompleteEnds
 pub mod CompleteStatements
+pub mod CompleteLoops
+pub mod CompleteGuards

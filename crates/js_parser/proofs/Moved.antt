@@ -1,20 +1,16 @@
 -- Places don't decide what is spelled: what a reading takes of tokens, it takes of tokens of the same kinds and
 -- line breaks, with the places that these have.
-use Rattle.std.proofs.Common.{◌≡◌, ℕ, Bool, true, false, List, [], ◌∷◌, Option, Some, None, refl, ap, sym, ◌∙◌, subst, codes, ◌⊎◌, inl, inr}
+use Rattle.std.proofs.Common.{◌≡◌, ℕ, Bool, true, List, [], ◌∷◌, Some, refl, ap, sym, ◌∙◌, subst, codes, inl, inr}
 use Prim.Native.String.{String}
 use lib.IntN.{ℤ}
 use Rattle.es_model.specs.declared.kinds.Semi.{Semi}
 use Rattle.es_model.specs.declared.kinds.Semi.TheVariants as semi
-use Rattle.es_model.specs.declared.kinds.MemberKind.{MemberKind}
-use Rattle.es_model.specs.declared.kinds.MemberKind.TheVariants as m
-use Rattle.es_model.specs.declared.kinds.BinaryOperator.{BinaryOperator}
 use Rattle.es_model.specs.declared.names.Identifier.{Identifier}
-use Rattle.es_model.specs.declared.names.Pair.{Pair}
 use Rattle.es_model.specs.declared.token.Token.{Token}
 use Rattle.es_model.specs.declared.token.TokenKind.{TokenKind}
 use Rattle.es_model.specs.declared.token.TokenKind.TheVariants as k
 use Rattle.es_model.specs.Tree.{Text}
-use Rattle.es_model.specs.Readings.{Tokens, Reading, First, nothing, never, ◌▸◌, ◌∣◌, given, One, word, plain_name, the, name, the_name, maybe_name, property, here, same_line, any_of, not_first, semicolon}
+use Rattle.es_model.specs.Readings.{Tokens, Reading, First, nothing, never, ◌▸◌, ◌∣◌, given, One, word, plain_name, the, name, the_name, property, here, same_line, any_of, not_first, semicolon}
 use Rattle.es_model.specs.Spelling as s
 use Rattle.es_model.specs.Spelling.{Semicolons, no_more, one_more}
 use Rattle.js_parser.specs.Parsed.{Shape, shape}

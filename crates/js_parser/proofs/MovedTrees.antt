@@ -1,25 +1,16 @@
 -- Each form at other places: a tree's tokens, with other places, are spelled by a tree of the same form.
-use Rattle.std.proofs.Common.{◌≡◌, ℕ, suc, ◌+◌, ◌≤◌, Bool, true, false, ◌&&◌, ◌||◌, List, [], ◌∷◌, Option, Some, None, refl, ap, ap₂, sym, ◌∙◌, subst, arith}
+use Rattle.std.proofs.Common.{◌≡◌, ℕ, ◌+◌, ◌≤◌, Bool, true, false, ◌&&◌, List, [], ◌∷◌, Option, Some, None, refl, ap₂, sym, ◌∙◌, subst, arith}
 use Rattle.std.specs.Prelude.{nat_le}
 use Rattle.es_model.specs.declared.kinds.Semi.{Semi}
-use Rattle.es_model.specs.declared.kinds.Semi.TheVariants as semi
-use Rattle.es_model.specs.declared.kinds.FunctionKind.{FunctionKind}
-use Rattle.es_model.specs.declared.kinds.FunctionKind.TheVariants as f
-use Rattle.es_model.specs.declared.kinds.MemberKind.{MemberKind}
-use Rattle.es_model.specs.declared.kinds.MemberKind.TheVariants as m
-use Rattle.es_model.specs.declared.kinds.BinaryOperator.{BinaryOperator}
 use Rattle.es_model.specs.declared.names.Identifier.{Identifier}
-use Rattle.es_model.specs.declared.token.Token.{Token}
-use Rattle.es_model.specs.declared.token.TokenKind.TheVariants as k
 use Rattle.es_model.specs.Tree as t
 use Rattle.es_model.specs.Tree.{Tree, Text}
-use Rattle.es_model.specs.Levels.{operator_sign, left_level, right_level, assignment_sign, unary_sign, level, is_nullish, is_bare_new, has_call, is_target, is_declaration, ends_in_short_if, defaults, all_initialised, is_constructor_key, method_kind, may_be_fixed, Holder, InObject, InClass}
-use Rattle.es_model.specs.Readings.{Tokens, Reading, nothing, ◌▸◌, ◌∣◌, given, the, name, here, same_line, not_first, may_miss, may_miss_bare, may_miss_after_do, may_miss_after_export, property}
+use Rattle.es_model.specs.Levels.{level, is_nullish, is_bare_new, has_call, is_target, is_declaration, ends_in_short_if, defaults, all_initialised, is_constructor_key, Holder, InObject, InClass}
+use Rattle.es_model.specs.Readings.{Reading, ◌▸◌, given, the}
 use Rattle.es_model.specs.Spelling as s
 use Rattle.es_model.specs.Spelling.{Spells, Spelled, Maybe, LeftOut, There, FunctionUse, AsExpression, AsStatement, AsDefault, AsMember, spells}
-use Rattle.js_parser.specs.Parsed.{shape}
-use Rattle.js_parser.proofs.Moved.{Alike, Moves, Stays, seq, into, under, either, impossible, nothing_stays, the_stays, the_name_stays, number_stays, string_stays, piece_stays, property_stays, named, name_moves, here_moves, same_line_moves, not_first_moves, by_shape, semicolon_stays}
-use Rattle.js_parser.proofs.MovedWords.{maybe_comma_stays, step_stays, assigning_stays, declaring_word_stays, static_stays, accessor_stays, semicolons_stay, OwnPlace, own_at, maybe_name_moves, class_name_moves, catch_name_moves, names_at, names_move, arrow_names_move, member_parameters_move, pairs_at, imported_moves, exported_from_moves, exported_moves, braced_move, import_list_moves}
+use Rattle.js_parser.proofs.Moved.{Moves, seq, into, under, impossible, nothing_stays, the_stays, piece_stays}
+use Rattle.js_parser.proofs.MovedWords.{maybe_comma_stays, semicolons_stay, OwnPlace, own_at, catch_name_moves}
 
 -- What the grammar asks of a tree by its form alone, the same for two trees.
 abbrev pub Same : (s : t.Sort) → Tree s → Tree s → Type 0

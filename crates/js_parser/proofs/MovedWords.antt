@@ -3,15 +3,12 @@ use Rattle.std.proofs.Common.{◌≡◌, ℕ, Bool, true, false, List, [], ◌�
 use Prim.Native.String.{String}
 use Rattle.es_model.specs.declared.kinds.MemberKind.{MemberKind}
 use Rattle.es_model.specs.declared.kinds.MemberKind.TheVariants as m
-use Rattle.es_model.specs.declared.kinds.BinaryOperator.{BinaryOperator}
-use Rattle.es_model.specs.declared.kinds.BinaryOperator.TheVariants as b
 use Rattle.es_model.specs.declared.names.Identifier.{Identifier}
 use Rattle.es_model.specs.declared.names.Pair.{Pair}
-use Rattle.es_model.specs.Levels.{assignment_sign}
-use Rattle.es_model.specs.Readings.{Tokens, Reading, nothing, never, ◌▸◌, ◌∣◌, given, the, name, the_name, maybe_name, here}
+use Rattle.es_model.specs.Readings.{Reading, ◌▸◌, ◌∣◌, given, the, name, the_name, maybe_name, here}
 use Rattle.es_model.specs.Spelling as s
 use Rattle.es_model.specs.Spelling.{Semicolons, no_more, one_more}
-use Rattle.js_parser.proofs.Moved.{Alike, Moves, Stays, seq, into, under, either, impossible, nothing_stays, the_stays, the_name_stays, named, name_moves, here_moves}
+use Rattle.js_parser.proofs.Moved.{Moves, Stays, seq, into, under, either, impossible, nothing_stays, the_stays, the_name_stays, named, name_moves, here_moves}
 
 pub maybe_comma_stays : Stays s.maybe_comma
 maybe_comma_stays = either nothing_stays (the_stays ",")

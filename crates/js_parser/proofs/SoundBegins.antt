@@ -1,13 +1,13 @@
 -- Where an operand or a statement is due, and where a statement ended before a token: what was taken still stands for the tokens.
 use Rattle.std.proofs.Common.{◌≡◌, ◌∙◌, sym, ap, subst, refl, ℕ, ◌≤◌, Bool, true, false, List, [], ◌∷◌, Option, Some, None, arith, true≢false}
-use Rattle.std.specs.Prelude.{◌&&◌, nat_le, if◌then◌else◌}
+use Rattle.std.specs.Prelude.{◌&&◌, nat_le}
 use Rattle.std.proofs.lemmas.Bool.{leb-true}
 use Rattle.es_model.specs.declared.names.Identifier.{Identifier}
 use Rattle.es_model.specs.declared.token.Token.{Token}
 use Rattle.es_model.specs.declared.token.TokenKind.{TokenKind}
 use Rattle.es_model.specs.declared.token.TokenKind.TheVariants as k
 use Rattle.es_model.specs.Tree as t
-use Rattle.es_model.specs.Readings.{Tokens, word, any_of, here}
+use Rattle.es_model.specs.Readings.{Tokens, word, here}
 use Rattle.es_model.specs.Spelling.{arrow_names, step}
 use Rattle.parser_forms.specs.declared.words.Word.{Word}
 use Rattle.parser_forms.specs.declared.words.Word.TheVariants as w
@@ -96,7 +96,7 @@ module _ (whole : Tokens) where
           pick None = one
   close_paren_holds (f.Expression (x.Infix i.Comma left) ∷ f.Expression (x.Paren at) ∷ frames) token now (inside, (from, opened, fits, (place, o)), least, (a, (any, r), comma)) e =
       head_where_holds frames at (list_of left.heading) from now opened
-          (λ list q. (place, enclosed_names list from now (inside, o, (token ∷ now, names_comma list inside a (token ∷ now) (r_listed left list inside a r q) comma, (e, refl)))))
+      (λ list q. (place, enclosed_names list from now (inside, o, (token ∷ now, names_comma list inside a (token ∷ now) (r_listed left list inside a r q) comma, (e, refl)))))
   close_paren_holds (f.Expression (x.Arguments of list) ∷ frames) token now (from, opened, fits, (b, (a, taken, o), r)) e =
       (from, opened, fits, called_level of list (lowest frames) fits, r_called of list from a b (token ∷ now) now taken o (r_elements list b (token ∷ now) r) (e, refl))
   close_paren_holds _ token now h e = tt
@@ -206,8 +206,8 @@ module _ (whole : Tokens) where
   close_holds declares short (f.Statement (s.Yes test) ∷ frames) line token from now takes (start, opened, fits, taken) r c =
       let inside : ReadLine false short line from (token ∷ now) = subst (λ b. ReadLine b short line from (token ∷ now)) takes r in
       else_or_by (λ st. Holds whole st now) token (the_word token) _ _ refl
-          (λ e. ((start, opened, fits, (token ∷ now, (from, taken, subst (λ b. ReadLine false b line from (token ∷ now)) (not_short token short e c) inside), (e, refl))), refl))
-          (λ q. close_holds false true frames (p.choice test line None) token start now fits opened (r_short_if short test line start from (token ∷ now) taken inside) q)
+      (λ e. ((start, opened, fits, (token ∷ now, (from, taken, subst (λ b. ReadLine false b line from (token ∷ now)) (not_short token short e c) inside), (e, refl))), refl))
+      (λ q. close_holds false true frames (p.choice test line None) token start now fits opened (r_short_if short test line start from (token ∷ now) taken inside) q)
   close_holds declares short (f.Statement (s.No test first) ∷ frames) line token from now takes (start, opened, fits, taken) r c =
       close_holds false short frames (p.choice test first (Some line)) token start now fits opened (r_if short test first line start from (token ∷ now) taken (subst (λ b. ReadLine b short line from (token ∷ now)) takes r)) c
   close_holds declares short (f.Statement (s.While test) ∷ frames) line token from now takes (start, opened, fits, taken) r c =
@@ -216,7 +216,7 @@ module _ (whole : Tokens) where
       close_holds false short frames (p.for_loop head test each line) token start now fits opened (r_for short head test each line start from (token ∷ now) taken (subst (λ b. ReadLine b short line from (token ∷ now)) takes r)) c
   close_holds declares short (f.Statement s.Do ∷ frames) line token from now takes (start, opened, fits, taken) r c =
       while_by (λ st. Holds whole st now) token (the_word token) _ (kind_is token.kind)
-          (λ e. (start, opened, fits, (token ∷ now, (from, taken, r_inner short line from (token ∷ now) (subst (λ b. ReadLine b short line from (token ∷ now)) takes r)), (e, refl)))) tt
+      (λ e. (start, opened, fits, (token ∷ now, (from, taken, r_inner short line from (token ∷ now) (subst (λ b. ReadLine b short line from (token ∷ now)) takes r)), (e, refl)))) tt
   close_holds declares short (f.Item (n.Module items) ∷ frames) line token from now takes h r c =
       close_item_holds (f.Item (n.Module items) ∷ frames) (p.plain_item line) token from now h (r_plain_item declares short line from (token ∷ now) r)
   close_holds declares short (f.Item n.Export ∷ frames) line token from now takes (start, opened, fits, taken) r c =

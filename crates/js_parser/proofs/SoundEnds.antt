@@ -1,5 +1,5 @@
 -- A form that is complete is put into the form round it: what was taken still stands for the tokens.
-use Rattle.std.proofs.Common.{◌≡◌, ◌∙◌, sym, ap, subst, refl, ℕ, ◌≤◌, Bool, true, false, List, [], ◌∷◌, Option, Some, None, arith, true≢false}
+use Rattle.std.proofs.Common.{◌≡◌, sym, subst, refl, ℕ, Bool, true, false, List, [], ◌∷◌, Option, Some, None, arith, true≢false}
 use Rattle.es_model.specs.declared.kinds.FunctionKind.TheVariants as kind
 use Rattle.es_model.specs.declared.names.Identifier.{Identifier}
 use Rattle.es_model.specs.declared.token.Token.{Token}
@@ -7,7 +7,6 @@ use Rattle.es_model.specs.declared.token.TokenKind.TheVariants as k
 use Rattle.es_model.specs.Tree as t
 use Rattle.std.specs.Prelude.{if◌then◌else◌}
 use Rattle.es_model.specs.Readings.{Tokens, word, the}
-use Rattle.es_model.specs.Levels.{InObject}
 use Rattle.parser_forms.specs.declared.words.Word.{Word}
 use Rattle.parser_forms.specs.declared.words.Word.TheVariants as w
 use Rattle.parser_forms.specs.declared.frame.Role.{Role}
@@ -27,7 +26,7 @@ use Rattle.parser_forms.specs.Parts as p
 use Rattle.parser_forms.specs.Ends.{put_item, put, method_kind, method, is_derived, method_end, function_end, class_end_as, class_end, switch_end, with_case, case_start, next_case, list_end, braces_end, module_end}
 use Rattle.parser_forms.specs.State.{Frames}
 use Rattle.js_parser.proofs.WordLaws.{Is}
-use Rattle.js_parser.proofs.SoundStates.{Opened, Holds, Takes, RoleFits, StartFits, SignatureFits, DefaultFits, ListFits, ReadItem, ReadItems, ReadLine, ReadBraces, ReadStatements, ParametersTaken, CaseBefore, ListBefore, MemberOpen, opener, lowest, ◌⊳◌}
+use Rattle.js_parser.proofs.SoundStates.{Opened, Holds, Takes, RoleFits, StartFits, SignatureFits, DefaultFits, ListFits, ReadItem, ReadItems, ReadLine, ReadBraces, ReadStatements, ParametersTaken, CaseBefore, ListBefore, MemberOpen, opener, ◌⊳◌}
 use Rattle.js_parser.proofs.SoundForms.{r_arrow_statements}
 use Rattle.js_parser.proofs.SoundMemberForms.{r_function_expression, r_function_statement, r_function_default, r_object_method, r_class_method, r_members_last, r_class_more, r_class_expression, r_class_statement, r_class_default}
 use Rattle.js_parser.proofs.SoundStatementForms.{r_statements_more, r_inner, r_block, r_if, r_while, r_for, r_try_finally, r_default_more, r_case_more, r_switch, r_items_more, r_plain_item, r_exported_item}
@@ -69,9 +68,22 @@ module _ (whole : Tokens) where
       ParametersTaken (g.Method start) list from a → ReadBraces body a now → Holds whole (method_end frames start list body) now
   method_end_holds (f.Member (m.Object at members) ∷ frames) start list body from a now (free, ok) (first, opened, fits, (b, brace, taken)) head r =
       (first, opened, fits, (b, brace, r_members_last members (method start (method_kind start.kind true false false) list body) b from now taken (r_object_method start list body from a now ok free head r)))
-  method_end_holds (f.Member (m.Class class members) ∷ frames) start list body from a now (free, ok) (first, opened, fits, (b, before, taken)) head r =
-      (now, (first, opened, fits, (b, before, r_class_more (is_derived class) members (method start (method_kind start.kind start.fixed start.key.is_constructor (is_derived class)) list body) b from now taken
-          (r_class_method (is_derived class) start list body from a now ok head r))), tt, refl)
+  method_end_holds (f.Member (m.Class class members) ∷ frames) start list body from a now (free, ok) (first, opened, fits, (b, before, taken)) head r = (
+    now,
+    (
+      first,
+      opened,
+      fits,
+      (
+        b,
+        before,
+        r_class_more (is_derived class) members (method start (method_kind start.kind start.fixed start.key.is_constructor (is_derived class)) list body) b from now taken
+            (r_class_method (is_derived class) start list body from a now ok head r),
+      ),
+    ),
+    tt,
+    refl,
+  )
   method_end_holds _ start list body from a now fits h head r = tt
 
   pub function_end_holds : (frames : Frames) (signature : Signature) (list : List Identifier) (body : Sorted (t.list t.statement)) (from a now : Tokens) → SignatureFits signature frames → Opened whole frames from →

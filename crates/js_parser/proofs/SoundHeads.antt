@@ -1,5 +1,5 @@
 -- The names that an expression is, as an arrow's head.
-use Rattle.std.proofs.Common.{◌≡◌, ◌∙◌, sym, ap, subst, refl, ℕ, Bool, true, false, List, [], ◌∷◌, ◌++◌, Option, Some, None, inl, inr, true≢false, arith}
+use Rattle.std.proofs.Common.{◌≡◌, ◌∙◌, sym, ap, subst, refl, Bool, true, false, List, [], ◌∷◌, Option, Some, None, inl, inr, true≢false, arith}
 use Rattle.es_model.specs.declared.names.Identifier.{Identifier}
 use Rattle.es_model.specs.Tree as t
 use Rattle.es_model.specs.Tree.{Tree}
@@ -76,10 +76,10 @@ comma_names : (right : Tree t.expression) (list : List Identifier) (from a b to 
 unfolding Spells
 comma_names right list from a b to (h.Name x) (h.Name y) e q left c r =
     subst (λ u. each_joined name u from to) (some_is q)
-        (each_last name (x ∷ []) y from b to (each_comma name (x ∷ []) from a b (left (x ∷ []) refl) c) (subst (λ u. Spells {s = t.expression} u b to) (is_the_name right y e) r))
+    (each_last name (x ∷ []) y from b to (each_comma name (x ∷ []) from a b (left (x ∷ []) refl) c) (subst (λ u. Spells {s = t.expression} u b to) (is_the_name right y e) r))
 comma_names right list from a b to (h.Names xs) (h.Name y) e q left c r =
     subst (λ u. each_joined name u from to) (some_is q)
-        (each_last name xs y from b to (each_comma name xs from a b (left xs refl) c) (subst (λ u. Spells {s = t.expression} u b to) (is_the_name right y e) r))
+    (each_last name xs y from b to (each_comma name xs from a b (left xs refl) c) (subst (λ u. Spells {s = t.expression} u b to) (is_the_name right y e) r))
 comma_names right list from a b to _ _ e q left c r = absurd (none_is q)
 
 listed_are : (e : Tree t.expression) (list : List Identifier) (from to : Tokens) → list_of (heading e) ≡ Some list → Spells e from to → each_joined name list from to

@@ -1,6 +1,6 @@
 -- What the machine answers is what the parser has to answer: from what it reads of a spelled tree (Built), from
 -- what it has read being spelled (Spelled), and from the end of a text being the last thing that it takes (Over).
-use Rattle.std.proofs.Common.{◌≡◌, ℕ, zero, suc, ◌+◌, ◌<◌, ◌≤◌, min, Bool, true, false, [], ◌∷◌, ◌++◌, length, take, drop, map, if◌then◌else◌, Option, Some, None, Ok, Err, Result, refl, ap, sym, ◌∙◌, subst, arith, take-append-drop}
+use Rattle.std.proofs.Common.{◌≡◌, ℕ, zero, suc, ◌+◌, ◌<◌, ◌≤◌, Bool, true, false, [], ◌∷◌, ◌++◌, length, take, drop, map, if◌then◌else◌, Option, Some, None, Ok, Err, Result, refl, ap, sym, ◌∙◌, subst, arith}
 use Rattle.std.specs.Prelude.{nat_le}
 use Rattle.std.proofs.lemmas.Bool.{leb-true, leb-false}
 use Rattle.es_model.specs.declared.token.Token.{Token}
@@ -15,7 +15,7 @@ use Rattle.parser_forms.specs.declared.frame.Control.TheVariants as c
 use Rattle.parser_forms.specs.Kept.{Sorted}
 use Rattle.parser_forms.specs.Cut.{cut}
 use Rattle.parser_forms.specs.State.{Frames, State, state, fail}
-use Rattle.parser_forms.specs.Machine.{step, run, start, Answer, Parsed, TooDeep, Syntax, answer, answer_from, kept_answer, unless_failed}
+use Rattle.parser_forms.specs.Machine.{step, run, start, Answer, Parsed, TooDeep, Syntax, answer, answer_from, unless_failed}
 use Rattle.js_parser.specs.declared.fault.ParseFault.{ParseFault}
 use Rattle.js_parser.specs.declared.fault.ParseFault.TheVariants as fault
 use Rattle.js_parser.specs.Parsed.{shape, NoneGoesOn, Answers, EndsLast}
