@@ -27,3 +27,4 @@ pub mod CompleteEnds
 pub mod CompleteStatements
 pub mod CompleteLoops
 pub mod CompleteGuards
+pub mod SoundSettle
