@@ -28,3 +28,4 @@ pub mod CompleteStatements
 pub mod CompleteLoops
 pub mod CompleteGuards
 pub mod SoundSettle
+pub mod SoundMembers
