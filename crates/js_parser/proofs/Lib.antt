@@ -29,3 +29,4 @@ pub mod CompleteLoops
 pub mod CompleteGuards
 pub mod SoundSettle
 pub mod SoundMembers
+pub mod SoundStatements
