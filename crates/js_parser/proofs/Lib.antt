@@ -30,3 +30,5 @@ pub mod CompleteGuards
 pub mod SoundSettle
 pub mod SoundMembers
 pub mod SoundStatements
+pub mod SoundItems
+pub mod Sound

@@ -1,7 +1,7 @@
 -- Where a part of an expression, of a member, of a function or of a class is due: what was taken still stands for the tokens.
 use Rattle.std.proofs.Common.{◌≡◌, ◌∙◌, sym, ap, ap₂, subst, refl, ℕ, ℤ, ◌≤◌, Bool, true, false, List, [], ◌∷◌, ◌++◌, Option, Some, None, arith, true≢false}
 use Rattle.std.proofs.lemmas.Bool.{eqb-true}
-use Rattle.std.specs.Prelude.{◌==◌, codes, if◌then◌else◌}
+use Rattle.std.specs.Prelude.{◌==◌, codes}
 use Rattle.es_model.specs.declared.kinds.MemberKind.{MemberKind}
 use Rattle.es_model.specs.declared.kinds.MemberKind.TheVariants as kind
 use Rattle.es_model.specs.declared.names.Identifier.{Identifier}
@@ -11,12 +11,10 @@ use Rattle.es_model.specs.declared.token.TokenKind.TheVariants as k
 use Rattle.es_model.specs.Tokens.{same_text}
 use Rattle.es_model.specs.Tree as t
 use Rattle.es_model.specs.Tree.{Text}
-use Rattle.es_model.specs.Readings.{Tokens, word, nothing, ◌▸◌, the, name, plain_name, here}
-use Rattle.es_model.specs.Spelling.{Spells, static_before, accessor_word, member_parameters, names}
+use Rattle.es_model.specs.Readings.{Tokens, word, the, name, plain_name, here}
+use Rattle.es_model.specs.Spelling.{Spells, static_before, accessor_word, member_parameters}
 use Rattle.parser_forms.specs.declared.words.Word.{Word}
 use Rattle.parser_forms.specs.declared.words.Word.TheVariants as w
-use Rattle.parser_forms.specs.declared.parts.Part.{Part}
-use Rattle.parser_forms.specs.declared.frame.KeyPart.{KeyPart}
 use Rattle.parser_forms.specs.declared.frame.MemberStart.{MemberStart}
 use Rattle.parser_forms.specs.declared.frame.ClassStart.{ClassStart}
 use Rattle.parser_forms.specs.declared.frame.Signature.{Signature}
@@ -36,11 +34,10 @@ use Rattle.parser_forms.specs.Parts as p
 use Rattle.parser_forms.specs.State.{Frames, State, fail, the_word}
 use Rattle.parser_forms.specs.Ends.{is_derived}
 use Rattle.parser_forms.specs.MemberSteps.{ident, property, super_arguments, super_word, arrow_word, arrow_body, expression_step, start_of, keyword_key, sign_key, key_kind, name_start, member_kind, member_start, object_key, class_key, key_next, accessor, fixed_member, object_member, class_member, member_due, member_next, is_setter, is_setter_of, is_getter, is_getter_of, function_name, parameter_end, parameter, parameter_next, class_next, class_name, open_paren, open_brace, member_step}
-use Rattle.js_parser.specs.Summary.{key_of}
 use Rattle.js_parser.proofs.FormLaws as laws
 use Rattle.js_parser.proofs.WordLaws.{Is, kind_is, begins_no_body, no_body_is}
 use Rattle.js_parser.proofs.SoundLists.{each_last, each_comma, names_joined, names_commaed}
-use Rattle.js_parser.proofs.SoundStates.{Opened, Holds, DueHolds, MemberHolds, NextHolds, ExpressionFits, ExpressionTaken, MemberDueFits, MemberTaken, ReadKey, NamedAs, MemberBefore, StartTaken, StartFits, FixedFits, IsOfFunction, IsAccessor, ShortIs, SignatureTaken, SignatureFits, ClassHead, RoleFits, BehindRole, PartParameters, NextParameters, ArrowTaken, kind_of, lowest}
+use Rattle.js_parser.proofs.SoundStates.{Opened, Holds, DueHolds, MemberHolds, NextHolds, ExpressionFits, ExpressionTaken, MemberTaken, ReadKey, NamedAs, MemberBefore, StartTaken, StartFits, FixedFits, IsOfFunction, IsAccessor, ShortIs, SignatureFits, ClassHead, RoleFits, BehindRole, PartParameters, NextParameters, ArrowTaken, kind_of, lowest}
 use Rattle.js_parser.proofs.SoundForms.{and_true, r_none, r_dot, r_super_dot, r_object, r_joined_object}
 use Rattle.js_parser.proofs.SoundMemberForms.{r_short_member, r_members_comma, r_no_class_members, r_class_semicolon}
 use Rattle.js_parser.proofs.SoundStatementForms.{r_no_statements}
@@ -89,7 +86,7 @@ free_of_static : (frames : Frames) → FixedFits false frames
 free_of_static (f.Member (m.Object at members) ∷ frames) = refl
 free_of_static _ = tt
 
-same_text_is : (a b : Text) → same_text a b ≡ true → a ≡ b
+pub same_text_is : (a b : Text) → same_text a b ≡ true → a ≡ b
 same_text_is [] [] e = refl
 same_text_is [] (d ∷ b) e = absurd (true≢false (sym e))
 same_text_is (c ∷ a) [] e = absurd (true≢false (sym e))
@@ -202,9 +199,15 @@ module _ (whole : Tokens) where
 
   key_kind_holds : (frames : Frames) (at : ℕ) (fixed : Bool) (kinded : MemberKind) (token : Token) (from now : Tokens) (what : TokenKind) → Opened whole frames from → StartFits fixed kinded frames → MemberBefore at fixed kinded from (token ∷ now) →
       (fixed ≡ false → kinded ≡ kind.Method → from ≡ token ∷ now) → token.kind ≡ what → Holds whole (key_kind frames at fixed kinded token.at what) now
-  key_kind_holds frames at fixed kinded token from now (k.Name text) h fits (place, (l, static, before)) alone e =
-      (from, h, fits, ((place, (l, static, (token ∷ now, before, r_word_key token text now (ap plain_name e)))),
-      short_by (ident token.at text) fixed kinded from now (λ free plain. subst (λ u. name (ident token.at text) u now) (sym (alone free plain)) ((e, refl), refl))))
+  key_kind_holds frames at fixed kinded token from now (k.Name text) h fits (place, (l, static, before)) alone e = (
+    from,
+    h,
+    fits,
+    (
+      (place, (l, static, (token ∷ now, before, r_word_key token text now (ap plain_name e)))),
+      short_by (ident token.at text) fixed kinded from now (λ free plain. subst (λ u. name (ident token.at text) u now) (sym (alone free plain)) ((e, refl), refl)),
+    ),
+  )
   key_kind_holds frames at fixed kinded token from now (k.Keyword number) h fits taken alone e = keyword_key_holds frames at fixed kinded token from now (plain_name (k.Keyword number)) h fits taken (ap plain_name e)
   key_kind_holds frames at fixed kinded token from now (k.String text) h fits (place, (l, static, before)) alone e = (from, h, fits, ((place, (l, static, (token ∷ now, before, r_string_key token text now e))), tt))
   key_kind_holds frames at fixed kinded token from now (k.Number number) h fits (place, (l, static, before)) alone e = (from, h, fits, ((place, (l, static, (token ∷ now, before, r_number_key token number now e))), tt))
@@ -222,10 +225,10 @@ module _ (whole : Tokens) where
       token.kind ≡ k.Name text → Holds whole (name_start frames at fixed token.at text) now
   name_start_holds frames at fixed token from now text h fits (place, static) e =
       split (λ st. Holds whole st now) (same_text text (codes "get")) _ _
-          (λ q. (from, h, (fits, same_text_is text (codes "get") q), (place, (token ∷ now, static, ((e, refl), refl)))))
-          (λ d. split (λ st. Holds whole st now) (same_text text (codes "set")) _ _
-              (λ q. (from, h, (fits, same_text_is text (codes "set") q), (place, (token ∷ now, static, ((e, refl), refl)))))
-              (λ c. plain_key_holds frames at fixed token from now (k.Name text) h fits (place, static) e))
+      (λ q. (from, h, (fits, same_text_is text (codes "get") q), (place, (token ∷ now, static, ((e, refl), refl)))))
+      (λ d. split (λ st. Holds whole st now) (same_text text (codes "set")) _ _
+      (λ q. (from, h, (fits, same_text_is text (codes "set") q), (place, (token ∷ now, static, ((e, refl), refl)))))
+      (λ c. plain_key_holds frames at fixed token from now (k.Name text) h fits (place, static) e))
 
   member_kind_holds : (frames : Frames) (at : ℕ) (fixed : Bool) (token : Token) (from now : Tokens) (what : TokenKind) → Opened whole frames from → FixedFits fixed frames → here at (static_before fixed) from (token ∷ now) →
       token.kind ≡ what → Holds whole (member_kind frames at fixed token.at what) now
@@ -265,7 +268,7 @@ module _ (whole : Tokens) where
       Is one token.kind → Holds whole (key_next frames (start_of at fixed kind.Method (p.key (t.KeyWord own.name))) (Some own) one) now
   word_key_holds frames at fixed own token from a now one h fits (place, static) named e =
       key_next_holds frames (start_of at fixed kind.Method (p.key (t.KeyWord own.name))) (Some own) token from now one h (fits, tt) (place, (a, static, (a, refl, r_name_key own a (token ∷ now) named)))
-          (short_by own fixed kind.Method from (token ∷ now) (λ free plain. subst (λ u. name own u (token ∷ now)) (sym (subst (λ b. static_before b from a) free static)) named)) e
+      (short_by own fixed kind.Method from (token ∷ now) (λ free plain. subst (λ u. name own u (token ∷ now)) (sym (subst (λ b. static_before b from a) free static)) named)) e
 
   accessor_holds : (frames : Frames) (at : ℕ) (fixed : Bool) (kinded : MemberKind) (own : Identifier) (token : Token) (from a now : Tokens) (one : Word) → Opened whole frames from → FixedFits fixed frames → IsAccessor kinded own →
       here at (static_before fixed) from a → name own a (token ∷ now) → Is one token.kind → Holds whole (accessor frames at fixed kinded own token one) now
@@ -275,7 +278,7 @@ module _ (whole : Tokens) where
   accessor_holds frames at fixed kinded own token from a now w.RightBrace h fits ok taken named e = word_key_holds frames at fixed own token from a now w.RightBrace h fits taken named e
   accessor_holds frames at fixed kinded own token from a now _ h fits ok (place, static) named e =
       key_kind_holds frames at fixed kinded token from now token.kind h (fits, accessor_function kinded own ok) (place, (a, static, accessor_read kinded own a (token ∷ now) ok named))
-          (λ free plain. absurd (subst (λ u. IsAccessor u own) plain ok)) refl
+      (λ free plain. absurd (subst (λ u. IsAccessor u own) plain ok)) refl
 
   fixed_member_holds : (frames : Frames) (at : ℕ) (token : Token) (from now : Tokens) (one : Word) → Opened whole frames from → FixedFits true frames → here at (the "static") from (token ∷ now) → Is one token.kind →
       Holds whole (fixed_member frames at token one) now
@@ -323,14 +326,14 @@ module _ (whole : Tokens) where
       Is one token.kind → Holds whole (parameter_end frames signature list one) now
   parameter_end_holds frames signature list token from now w.RightParen h fits (b, before, taken) e =
       split (λ st. Holds whole st now) (is_setter_of signature) _ _ (λ q. tt)
-          (λ q. (from, h, fits, (token ∷ now, (b, before, parameters_over (kind_of signature) list b (token ∷ now) (sym (setter_is signature) ∙ q) taken), (e, refl))))
+      (λ q. (from, h, fits, (token ∷ now, (b, before, parameters_over (kind_of signature) list b (token ∷ now) (sym (setter_is signature) ∙ q) taken), (e, refl))))
   parameter_end_holds frames signature list token from now _ h fits taken e = tt
 
   parameter_holds : (frames : Frames) (signature : Signature) (list : List Identifier) (token : Token) (from now : Tokens) (what : TokenKind) (one : Word) → Opened whole frames from → SignatureFits signature frames →
       MemberTaken (md.Parameter signature list) from (token ∷ now) → token.kind ≡ what → Is one token.kind → Holds whole (parameter frames signature list what token.at one) now
   parameter_holds frames signature list token from now (k.Name text) one h fits (b, before, taken) q e =
       split (λ st. Holds whole st now) (is_getter_of signature) _ _ (λ c. tt)
-          (λ c. (from, h, fits, (b, before, parameters_more (kind_of signature) list (ident token.at text) b (token ∷ now) now (sym (getter_is signature) ∙ c) taken ((q, refl), refl))))
+      (λ c. (from, h, fits, (b, before, parameters_more (kind_of signature) list (ident token.at text) b (token ∷ now) now (sym (getter_is signature) ∙ c) taken ((q, refl), refl))))
   parameter_holds frames signature list token from now _ one h fits taken q e = parameter_end_holds frames signature list token from now one h fits taken e
 
   parameter_next_holds : (frames : Frames) (signature : Signature) (list : List Identifier) (token : Token) (from now : Tokens) (one : Word) → Opened whole frames from → SignatureFits signature frames →
@@ -339,7 +342,7 @@ module _ (whole : Tokens) where
       (from, h, fits, (token ∷ now, (b, before, parameters_last (kind_of signature) list b (token ∷ now) taken), (e, refl)))
   parameter_next_holds frames signature list token from now w.Comma h fits (b, before, taken) e =
       split (λ st. Holds whole st now) (is_setter_of signature) _ _ (λ q. tt)
-          (λ q. (from, h, fits, (b, before, parameters_comma (kind_of signature) list b (token ∷ now) now (sym (setter_is signature) ∙ q) taken (e, refl))))
+      (λ q. (from, h, fits, (b, before, parameters_comma (kind_of signature) list b (token ∷ now) now (sym (setter_is signature) ∙ q) taken (e, refl))))
   parameter_next_holds frames signature list token from now _ h fits taken e = tt
 
   class_next_holds : (frames : Frames) (at : ℕ) (own : Option Identifier) (stands : Role) (token : Token) (from now : Tokens) (one : Word) → Opened whole frames from → RoleFits stands frames → ClassHead at own stands from (token ∷ now) →

@@ -1,6 +1,6 @@
 -- A token behind an expression: what was taken still stands for the tokens.
-use Rattle.std.proofs.Common.{◌≡◌, ◌∙◌, sym, ap, subst, refl, ℕ, ◌≤◌, Bool, true, false, List, [], ◌∷◌, ◌++◌, Option, Some, None, arith, true≢false}
-use Rattle.std.specs.Prelude.{◌&&◌, not, nat_le, if◌then◌else◌}
+use Rattle.std.proofs.Common.{◌≡◌, ◌∙◌, sym, ap, subst, refl, ℕ, ◌≤◌, Bool, true, false, List, [], ◌∷◌, Option, Some, None, arith}
+use Rattle.std.specs.Prelude.{nat_le}
 use Rattle.std.proofs.lemmas.Bool.{leb-true}
 use Prim.Native.String.{String}
 use Rattle.es_model.specs.declared.kinds.BinaryOperator.{BinaryOperator}
@@ -41,7 +41,7 @@ use Rattle.parser_forms.specs.Tables.{infix_of, assignment_of, gives_other, give
 use Rattle.parser_forms.specs.State.{Frames, State, fail, operand_due, the_word}
 use Rattle.parser_forms.specs.Settle.{statement_end, item_end, may, names_end, arrow_where, taken_as, taken_by, taken, arguments_end, items_end, template_end, at_paren, at_bracket, at_colon, at_semicolon, at_brace, object_next, test_end, initialiser_end, ended, new_end, closed, settle}
 use Rattle.js_parser.proofs.WordLaws.{Is, kind_is, may_miss_is, IsInfix, IsAssignment, IsSign, infix_is, assignment_is}
-use Rattle.js_parser.proofs.SoundStates.{Opened, Holds, Takes, DeclareFits, Fits, Taken, Read, ReadItem, ReadLine, ReadMember, BehindDeclare, TestTaken, lowest_of, lowest, ◌⊳◌}
+use Rattle.js_parser.proofs.SoundStates.{Opened, Holds, Takes, DeclareFits, Fits, Taken, Read, ReadItem, ReadLine, ReadMember, BehindDeclare, TestTaken, lowest_of, lowest}
 use Rattle.js_parser.proofs.SoundForms.{read_of, r_none, r_last, r_comma, r_called, r_array, r_paren, r_index, r_super_index, r_pieces_more, r_template, r_update_before, r_update_behind, r_bare_new, r_prefix, r_infix, r_conditional, r_assign, r_arrow}
 use Rattle.js_parser.proofs.SoundMemberForms.{r_value_member, r_members_last, r_members_comma, r_no_class_members, r_computed_key}
 use Rattle.js_parser.proofs.SoundForms.{r_joined_object}
@@ -126,10 +126,10 @@ module _ (whole : Tokens) where
       BehindDeclare use_of (declaring_word constant) from a → ReadDeclared constant names a (token ∷ now) → Holds whole (names_end frames constant names use_of token) now
   names_end_holds frames constant names d.Statement token from a now fits h before r =
       statement_end_holds true frames (p.declare constant names) (may token) reading.may_miss token from now (the_word token) (kind_is token.kind) fits h (λ e q. sym (may_miss_is token) ∙ q)
-          (λ mark to c. r_declare constant names mark from a (token ∷ now) to before r c)
+      (λ mark to c. r_declare constant names mark from a (token ∷ now) to before r c)
   names_end_holds frames constant names d.For token from a now fits h (b, before, begins) r =
       semicolon_by (λ st. Holds whole st now) token (the_word token) _ (kind_is token.kind)
-          (λ e. (from, h, fits, (token ∷ now, (b, before, r_head_declare constant names b a (token ∷ now) begins r), (e, refl)))) tt
+      (λ e. (from, h, fits, (token ∷ now, (b, before, r_head_declare constant names b a (token ∷ now) begins r), (e, refl)))) tt
 
   -- The expression goes on.
 
@@ -165,7 +165,7 @@ module _ (whole : Tokens) where
       split (λ st. Holds whole st now) (is_left_of operator part) _ _ (λ q. ((from, h, omega (arith, most, least), (token ∷ now, (q, r), (e, refl))), (right_is operator).1)) (λ q. tt)
   taken_by_holds frames part token from now None (Some operator) one h low r e a c pos most least =
       split (λ st. Holds whole st now) part.is_target _ _
-          (λ q. ((from, h, omega (arith, most, least), (token ∷ now, (q, r), assigned (assignment_sign operator) token now a)), omega arith)) (λ q. tt)
+      (λ q. ((from, h, omega (arith, most, least), (token ∷ now, (q, r), assigned (assignment_sign operator) token now a)), omega arith)) (λ q. tt)
   taken_by_holds frames part token from now None None one h low r e a c pos most least = taken_as_holds frames part token from now one token.line_before h low r c refl pos most least
 
   taken_holds : (frames : Frames) (part : Part) (token : Token) (from now : Tokens) → Opened whole frames from → lowest frames ≤ 17 → Read part from (token ∷ now) →
@@ -233,15 +233,15 @@ module _ (whole : Tokens) where
   ended_holds (f.Expression (x.Template at texts values)) frames part token start from now h fits taken low r = template_end_holds frames at texts values part token start from now token.kind h fits taken r refl
   ended_holds (f.Member (m.Key at fixed kind)) frames part token start from now h fits (c, (place, (l, static, accessor)), sign) low r =
       bracket_by (λ st. Holds whole st now) token (the_word token) _ (kind_is token.kind)
-          (λ e. (start, h, fits, ((place, (l, static, (c, accessor, r_computed_key part c from (token ∷ now) now sign r low (e, refl)))), tt))) tt
+      (λ e. (start, h, fits, ((place, (l, static, (c, accessor, r_computed_key part c from (token ∷ now) now sign r low (e, refl)))), tt))) tt
   ended_holds (f.Member (m.Value first)) frames part token start from now h fits taken low r =
       object_next_holds frames (p.value_member first.at first.key part) token start now (the_word token) h (r_value_member first part start from (token ∷ now) fits taken r low) (kind_is token.kind)
   ended_holds (f.Member (m.Parent at own stands)) frames part token start from now h fits (a, before, sign) low (tree, q, place, r) =
       brace_by (λ st. Holds whole st now) token (the_word token) _ (kind_is token.kind)
-          (λ e. (now, (start, h, fits, (now, (token ∷ now, (a, before, (from, sign, (tree, ap (λ u. u.of) q, subst (λ u. 17 ≤ u.level) (sym q) low, r))), (e, refl)), r_no_class_members true now)), tt, refl)) tt
+      (λ e. (now, (start, h, fits, (now, (token ∷ now, (a, before, (from, sign, (tree, ap (λ u. u.of) q, subst (λ u. 17 ≤ u.level) (sym q) low, r))), (e, refl)), r_no_class_members true now)), tt, refl)) tt
   ended_holds (f.Statement s.Value) frames part token start from now h fits taken low r =
       statement_end_holds false frames (p.value part.of) (may token) reading.may_miss token start now (the_word token) (kind_is token.kind) fits h (λ e q. sym (may_miss_is token) ∙ q)
-          (λ mark to c. r_value part mark start from (token ∷ now) to taken r c)
+      (λ mark to c. r_value part mark start from (token ∷ now) to taken r c)
   ended_holds (f.Statement (s.Initialiser constant names use_of own)) frames part token start from now h fits taken low r =
       initialiser_end_holds frames constant names use_of own part token start from now (the_word token) fits h taken low r (kind_is token.kind)
   ended_holds (f.Statement (s.Test opening)) frames part token start from now h fits taken low r =
@@ -256,16 +256,16 @@ module _ (whole : Tokens) where
       paren_by (λ st. Holds whole st now) token (the_word token) _ (kind_is token.kind) (λ e. ((start, h, fits, (token ∷ now, (from, taken, r_there part from (token ∷ now) r), (e, refl))), refl)) tt
   ended_holds (f.Statement (s.Return at)) frames part token start from now h fits taken low r =
       statement_end_holds false frames (p.return at (Some part.of)) (may token) reading.may_miss token start now (the_word token) (kind_is token.kind) fits h (λ e q. sym (may_miss_is token) ∙ q)
-          (λ mark to c. r_return at part mark start from (token ∷ now) to taken r c)
+      (λ mark to c. r_return at part mark start from (token ∷ now) to taken r c)
   ended_holds (f.Statement s.Throw) frames part token start from now h fits taken low r =
       statement_end_holds false frames (p.throw part.of) (may token) reading.may_miss token start now (the_word token) (kind_is token.kind) fits h (λ e q. sym (may_miss_is token) ∙ q)
-          (λ mark to c. r_throw part mark start from (token ∷ now) to taken r c)
+      (λ mark to c. r_throw part mark start from (token ∷ now) to taken r c)
   ended_holds (f.Statement s.CaseTest) frames part token start from now h fits taken low r =
       colon_by (λ st. Holds whole st now) token (the_word token) _ (kind_is token.kind)
-          (λ e. ((start, h, tt, (now, (token ∷ now, (from, taken, read_of part from (token ∷ now) r), (e, refl)), r_no_statements now)), tt)) tt
+      (λ e. ((start, h, tt, (now, (token ∷ now, (from, taken, read_of part from (token ∷ now) r), (e, refl)), r_no_statements now)), tt)) tt
   ended_holds (f.Item (n.Default at)) frames part token start from now h fits taken low r =
       item_end_holds frames (p.default_value at part.of) (may token) reading.may_miss token start now (the_word token) (kind_is token.kind) h (λ q. sym (may_miss_is token) ∙ q)
-          (λ mark to c. r_default_value at part mark start from (token ∷ now) to taken r low c)
+      (λ mark to c. r_default_value at part mark start from (token ∷ now) to taken r low c)
   ended_holds _ frames part token start from now h fits taken low r = tt
 
   new_end_holds : (frames : Frames) (at : ℕ) (part : Part) (token : Token) (start from now : Tokens) (bare : State) (one : Word) → Opened whole frames start → lowest frames ≤ 17 → Taken (f.Expression (x.New at)) start from →
@@ -287,8 +287,8 @@ module _ (whole : Tokens) where
       split (λ st. Holds whole st now) part.is_target _ _ (λ q. ih (p.update_before at up part) (omega (arith, fits)) fits (r_update_before at up part start from (token ∷ now) taken r q)) (λ q. tt)
   closed_holds (f.Expression (x.New at)) again frames part token start from now ih h fits taken low r =
       split (λ st. Holds whole st now) (is_new_callee part) _ _
-          (λ q. new_end_holds frames at part token start from now (again (p.bare_new at part)) (the_word token) h fits taken r q (kind_is token.kind)
-              (ih (p.bare_new at part) fits fits (r_bare_new at part start from (token ∷ now) taken r q))) (λ q. tt)
+      (λ q. new_end_holds frames at part token start from now (again (p.bare_new at part)) (the_word token) h fits taken r q (kind_is token.kind)
+      (ih (p.bare_new at part) fits fits (r_bare_new at part start from (token ∷ now) taken r q))) (λ q. tt)
   closed_holds (f.Expression (x.No test first)) again frames part token start from now ih h fits (c, (b, (a, before, sign), one), colon) low r =
       ih (p.conditional test first part) (omega (arith, fits)) fits (r_conditional test first part start a b c from (token ∷ now) before sign one colon r low)
   closed_holds (f.Expression (x.Assign left operator)) again frames part token start from now ih h fits (a, before, sign) low r =
@@ -301,5 +301,5 @@ module _ (whole : Tokens) where
   settle_holds [] part token from now h least low r = tt
   settle_holds (frame ∷ frames) part token from now (start, opened, fits, taken) least low r =
       split (λ st. Holds whole st now) (goes_on_in frame (the_word token) token.line_before) _ _
-          (λ q. taken_holds (frame ∷ frames) part token from now (start, opened, fits, taken) least r (slot_is frame) (leb-true _ _ q))
-          (λ q. closed_holds frame (λ next. settle frames next token) frames part token start from now (λ next one two read. settle_holds frames next token start now opened one two read) opened fits taken low r)
+      (λ q. taken_holds (frame ∷ frames) part token from now (start, opened, fits, taken) least r (slot_is frame) (leb-true _ _ q))
+      (λ q. closed_holds frame (λ next. settle frames next token) frames part token start from now (λ next one two read. settle_holds frames next token start now opened one two read) opened fits taken low r)

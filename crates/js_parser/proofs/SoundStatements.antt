@@ -1,6 +1,6 @@
 -- Where a part of a statement is due: what was taken still stands for the tokens.
-use Rattle.std.proofs.Common.{◌≡◌, ◌∙◌, sym, ap, subst, refl, ℕ, ◌≤◌, Bool, true, false, List, [], ◌∷◌, Option, Some, None, arith, true≢false}
-use Rattle.std.specs.Prelude.{◌&&◌, ◌||◌, not, if◌then◌else◌}
+use Rattle.std.proofs.Common.{◌≡◌, ◌∙◌, sym, ap, subst, refl, ℕ, Bool, true, false, ◌∷◌, Option, Some, None, arith, true≢false}
+use Rattle.std.specs.Prelude.{◌&&◌, ◌||◌, not}
 use Rattle.es_model.specs.declared.names.Identifier.{Identifier}
 use Rattle.es_model.specs.declared.token.Token.{Token}
 use Rattle.es_model.specs.declared.token.TokenKind.{TokenKind}
@@ -19,9 +19,9 @@ use Rattle.parser_forms.specs.Kept.{Sorted, and_then}
 use Rattle.parser_forms.specs.Parts as p
 use Rattle.parser_forms.specs.Tables.{is_semicolon, ends}
 use Rattle.parser_forms.specs.State.{Frames, State, fail, the_word}
-use Rattle.parser_forms.specs.StatementSteps.{at_paren, at_brace, at_colon, at_close, ident, case_due, for_head, for_test, for_step, name_due, name_end, name_next, jump, bare_may, return_due, throw_due, guard_due, catch_due, catch_name, finally_due, statement_step}
+use Rattle.parser_forms.specs.StatementSteps.{at_paren, at_brace, at_colon, at_close, case_due, for_head, for_test, for_step, name_due, name_end, name_next, jump, bare_may, return_due, guard_due, catch_due, catch_name, finally_due, statement_step}
 use Rattle.js_parser.proofs.WordLaws.{Is, kind_is, may_miss_bare_is, may_miss_after_do_is}
-use Rattle.js_parser.proofs.SoundStates.{Opened, Holds, DueHolds, Takes, DeclareFits, StatementDueFits, StatementTaken, opener}
+use Rattle.js_parser.proofs.SoundStates.{Opened, Holds, DueHolds, Takes, DeclareFits, StatementDueFits, StatementTaken}
 use Rattle.js_parser.proofs.SoundStatementForms.{r_no_statements, r_no_cases, r_no_names, r_head_nothing, r_left_out, r_name_comma, r_name_last, r_short_if, r_do, r_jump, r_bare_return, r_try_catch}
 use Rattle.js_parser.proofs.SoundEnds.{split, in_switch, switch_end_holds, case_start_holds}
 use Rattle.js_parser.proofs.SoundBegins.{else_or_by, while_by, operand_holds, close_holds}
@@ -97,9 +97,9 @@ module _ (whole : Tokens) where
   return_due_holds : (frames : Frames) (at : ℕ) (token : Token) (from now : Tokens) → Opened whole frames from → Takes frames false → StatementTaken (sd.Return at) from (token ∷ now) → Holds whole (return_due frames at token) now
   return_due_holds frames at token from now h takes taken =
       split (λ st. Holds whole st now) (is_semicolon (the_word token) || bare_may token) _ _
-          (λ c. statement_end_holds whole false frames (p.return at None) (bare_may token) reading.may_miss_bare token from now (the_word token) (kind_is token.kind) takes h (λ e q. sym (may_miss_bare_is token) ∙ q)
-              (λ mark to d. r_bare_return at mark from (token ∷ now) to taken d))
-          (λ c. operand_holds whole (f.Statement (s.Return at) ∷ frames) token now (omega arith) (from, h, takes, (taken, on_line (is_semicolon (the_word token)) (ends (the_word token)) token.line_before c)))
+      (λ c. statement_end_holds whole false frames (p.return at None) (bare_may token) reading.may_miss_bare token from now (the_word token) (kind_is token.kind) takes h (λ e q. sym (may_miss_bare_is token) ∙ q)
+      (λ mark to d. r_bare_return at mark from (token ∷ now) to taken d))
+      (λ c. operand_holds whole (f.Statement (s.Return at) ∷ frames) token now (omega arith) (from, h, takes, (taken, on_line (is_semicolon (the_word token)) (ends (the_word token)) token.line_before c)))
 
   guard_due_holds : (frames : Frames) (block : Sorted (t.list t.statement)) (token : Token) (from now : Tokens) (one : Word) → Opened whole frames from → Takes frames false → StatementTaken (sd.Guard block) from (token ∷ now) →
       Is one token.kind → Holds whole (guard_due frames block one) now
@@ -129,7 +129,7 @@ module _ (whole : Tokens) where
       paren_by (λ st. Holds whole st now) token (the_word token) _ (kind_is token.kind) (λ e. ((from, h, fits, (token ∷ now, taken, (e, refl))), omega arith)) tt
   statement_step_holds (sd.Brace stands) frames token now (from, h, fits, (opens, taken)) =
       brace_by (λ st. Holds whole st now) token (the_word token) _ (kind_is token.kind)
-          (λ e. ((from, h, fits, (now, (token ∷ now, taken, (subst (λ u. token.kind ≡ word u) (sym opens) e, refl)), r_no_statements now)), tt)) tt
+      (λ e. ((from, h, fits, (now, (token ∷ now, taken, (subst (λ u. token.kind ≡ word u) (sym opens) e, refl)), r_no_statements now)), tt)) tt
   statement_step_holds (sd.SwitchBrace of) frames token now (from, h, fits, taken) =
       brace_by (λ st. Holds whole st now) token (the_word token) _ (kind_is token.kind) (λ e. (now, (from, h, fits, (now, (token ∷ now, taken, (e, refl)), r_no_cases now)), tt, refl)) tt
   statement_step_holds sd.Case frames token now (from, h, fits, same) = case_due_holds frames token now (the_word token) (subst (λ u. Opened whole frames u) same h) (kind_is token.kind)
@@ -144,17 +144,17 @@ module _ (whole : Tokens) where
   statement_step_holds (sd.NameNext constant names use_of own) frames token now (from, h, fits, taken) = name_next_holds frames constant names use_of own token from now (the_word token) h fits taken (kind_is token.kind)
   statement_step_holds (sd.Else test first) frames token now (from, h, fits, (a, before, line)) =
       else_or_by (λ st. Holds whole st now) token (the_word token) _ _ refl (λ e. ((from, h, fits, (token ∷ now, (a, before, line), (e, refl))), refl))
-          (λ q. close_holds whole false true frames (p.choice test first None) token from now fits h (r_short_if false test first from a (token ∷ now) before line) q)
+      (λ q. close_holds whole false true frames (p.choice test first None) token from now fits h (r_short_if false test first from a (token ∷ now) before line) q)
   statement_step_holds (sd.DoWhile body) frames token now (from, h, fits, taken) =
       while_by (λ st. Holds whole st now) token (the_word token) _ (kind_is token.kind) (λ e. (from, h, fits, (token ∷ now, taken, (e, refl)))) tt
   statement_step_holds (sd.DoOpen body) frames token now (from, h, fits, taken) =
       paren_by (λ st. Holds whole st now) token (the_word token) _ (kind_is token.kind) (λ e. ((from, h, fits, (token ∷ now, taken, (e, refl))), omega arith)) tt
   statement_step_holds (sd.DoEnd body test) frames token now (from, h, fits, taken) =
       statement_end_holds whole false frames (p.do_loop body test) true reading.may_miss_after_do token from now (the_word token) (kind_is token.kind) fits h (λ e q. sym (may_miss_after_do_is token) ∙ ap not e)
-          (λ mark to c. r_do body test mark from (token ∷ now) to taken c)
+      (λ mark to c. r_do body test mark from (token ∷ now) to taken c)
   statement_step_holds (sd.Jump which at) frames token now (from, h, fits, taken) =
       statement_end_holds whole false frames (jump which at) (bare_may token) reading.may_miss_bare token from now (the_word token) (kind_is token.kind) fits h (λ e q. sym (may_miss_bare_is token) ∙ q)
-          (λ mark to c. r_jump which at mark from (token ∷ now) to taken c)
+      (λ mark to c. r_jump which at mark from (token ∷ now) to taken c)
   statement_step_holds (sd.Return at) frames token now (from, h, fits, taken) = return_due_holds frames at token from now h fits taken
   statement_step_holds sd.Throw frames token now (from, h, fits, taken) =
       split (λ st. Holds whole st now) token.line_before _ _ (λ q. tt) (λ q. operand_holds whole (f.Statement s.Throw ∷ frames) token now (omega arith) (from, h, fits, (taken, q)))
