@@ -32,3 +32,4 @@ pub mod SoundMembers
 pub mod SoundStatements
 pub mod SoundItems
 pub mod Sound
+pub mod Over

@@ -12,7 +12,7 @@ use Rattle.parser_forms.specs.Cut.{cut}
 use Rattle.parser_forms.specs.State.{Frames, State, state}
 use Rattle.parser_forms.specs.Machine.{step_by, step, run, start}
 use Rattle.js_parser.proofs.SoundStates.{ControlHolds, Holds}
-use Rattle.js_parser.proofs.SoundStatementForms.{r_no_items}
+use Rattle.js_parser.proofs.SoundStatementForms.{read_no_items}
 use Rattle.js_parser.proofs.SoundBegins.{operand_holds, begin_holds}
 use Rattle.js_parser.proofs.SoundSettle.{settle_holds}
 use Rattle.js_parser.proofs.SoundMembers.{expression_step_holds, member_step_holds}
@@ -40,5 +40,5 @@ module _ (whole : Tokens) where
 
 pub spelled : (tokens : Tokens) (kept : Sorted (t.list t.item)) (frames : Frames) → run start tokens ≡ state (c.Done kept) frames → (items : Tree (t.list t.item)) × (cut items ≡ kept) × spells items tokens
 spelled tokens kept frames e =
-    let (last, ends, (items, same, taken)) = subst (λ st. Holds tokens st []) e (run_holds tokens tokens start ((tokens, refl, tt, r_no_items tokens), tt)) in
+    let (last, ends, (items, same, taken)) = subst (λ st. Holds tokens st []) e (run_holds tokens tokens start ((tokens, refl, tt, read_no_items tokens), tt)) in
     (items, same, (last, ends, taken))

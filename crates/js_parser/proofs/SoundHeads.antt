@@ -106,8 +106,8 @@ head_is (t.Paren of) list from to q (a, o, (b, r, c)) =
 head_is _ list from to q r = absurd (none_is q)
 
 -- the same of a part that was read
-pub r_head : (part : Part) (list : List Identifier) (from to : Tokens) → Read part from to → head_of part.heading ≡ Some list → here part.at (arrow_names list) from to
-r_head part list from to (e, q, w, r) h = (w, head_is e list from to (subst (λ u. head_of u.heading ≡ Some list) (sym q) h) r)
+pub read_head : (part : Part) (list : List Identifier) (from to : Tokens) → Read part from to → head_of part.heading ≡ Some list → here part.at (arrow_names list) from to
+read_head part list from to (e, q, w, r) h = (w, head_is e list from to (subst (λ u. head_of u.heading ≡ Some list) (sym q) h) r)
 
-pub r_listed : (part : Part) (list : List Identifier) (from to : Tokens) → Read part from to → list_of part.heading ≡ Some list → each_joined name list from to
-r_listed part list from to (e, q, w, r) h = listed_are e list from to (subst (λ u. list_of u.heading ≡ Some list) (sym q) h) r
+pub read_listed : (part : Part) (list : List Identifier) (from to : Tokens) → Read part from to → list_of part.heading ≡ Some list → each_joined name list from to
+read_listed part list from to (e, q, w, r) h = listed_are e list from to (subst (λ u. list_of u.heading ≡ Some list) (sym q) h) r

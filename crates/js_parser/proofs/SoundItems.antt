@@ -27,7 +27,7 @@ use Rattle.parser_forms.specs.ItemSteps.{ident, default_at, is_name, at_name, im
 use Rattle.js_parser.proofs.WordLaws.{Is, kind_is, may_miss_is, may_miss_after_export_is, begins_no_default, no_default_is}
 use Rattle.js_parser.proofs.SoundLists.{each_commaed, each_joined, each_last, each_comma, commaed_as, pairs_joined, pairs_commaed}
 use Rattle.js_parser.proofs.SoundStates.{Opened, Holds, DueHolds, ItemTaken, PairsTaken, BehindDefault, DefaultTaken, NameTaken, exports}
-use Rattle.js_parser.proofs.SoundStatementForms.{r_other, r_export_names}
+use Rattle.js_parser.proofs.SoundStatementForms.{read_other, read_export_names}
 use Rattle.js_parser.proofs.SoundEnds.{split}
 use Rattle.js_parser.proofs.SoundBegins.{operand_holds, declaration_holds}
 use Rattle.js_parser.proofs.SoundSettle.{item_end_holds}
@@ -233,7 +233,7 @@ module _ (whole : Tokens) where
   export_names_hold frames true pairs token from now h taken q = tt
   export_names_hold frames false pairs token from now h taken q =
       item_end_holds whole frames (λ mark. p.bare_item (t.ExportNames pairs mark)) (may token) reading.may_miss_after_export token from now (the_word token) (kind_is token.kind) h
-      (λ c. sym (may_miss_after_export_is token (sym (from_is token.kind) ∙ q)) ∙ c) (λ mark to c. r_export_names pairs mark from (token ∷ now) to taken c)
+      (λ c. sym (may_miss_after_export_is token (sym (from_is token.kind) ∙ q)) ∙ c) (λ mark to c. read_export_names pairs mark from (token ∷ now) to taken c)
 
   export_due_holds : (frames : Frames) (token : Token) (from now : Tokens) (one : Word) → Opened whole frames from → the "export" from (token ∷ now) → Is one token.kind → Holds whole (export_due frames token.at one) now
   export_due_holds frames token from now w.LeftBrace h taken e = (from, h, tt, (token ∷ now, taken, (now, (e, refl), refl)))
@@ -260,7 +260,7 @@ module _ (whole : Tokens) where
   item_step_holds (nd.Other stands pairs) frames token now (from, h, fits, taken) = other_due_holds frames stands pairs token from now token.kind h taken refl
   item_step_holds (nd.OtherEnd stands pairs other) frames token now (from, h, fits, taken) =
       item_end_holds whole frames (from_other stands pairs other) (may token) reading.may_miss token from now (the_word token) (kind_is token.kind) h (λ q. sym (may_miss_is token) ∙ q)
-      (λ mark to c. r_other stands pairs other mark from (token ∷ now) to taken c)
+      (λ mark to c. read_other stands pairs other mark from (token ∷ now) to taken c)
   item_step_holds (nd.ExportNext named pairs) frames token now (from, h, fits, (a, begins, (b, brace, (c, list, close)))) =
       name_by (λ st. Holds whole st now) (codes "from") token.kind _ _
       (λ q. (from, h, tt, (token ∷ now, (a, begins, (b, brace, (c, pairs_as (exports named) exported_from (exports_from named) pairs b c list, close))), (q, refl))))

@@ -34,21 +34,21 @@ plain_body : (at : ℕ) (own : Option Identifier) (list : List Identifier) (body
     plain_function at (maybe_name own) list (braces (Spells body)) from to
 plain_body at own list body from a b c d e h i to (place, word) named o inside z brace inner close = (place, (a, word, (b, named, (c, o, (d, inside, (e, z, (h, brace, (i, inner, close))))))))
 
-pub r_function_expression : (at : ℕ) (own : Option Identifier) (list : List Identifier) (body : Sorted (t.list t.statement)) (from a to : Tokens) →
+pub read_function_expression : (at : ℕ) (own : Option Identifier) (list : List Identifier) (body : Sorted (t.list t.statement)) (from a to : Tokens) →
     ParametersTaken (g.Function at own role.Expression) list from a → ReadBraces body a to → Read (p.function_expression at (p.function at own f.Plain list body)) from to
 unfolding Spells
-r_function_expression at own list body from a to (e, (d, (c, (ok, (b, word, named)), o), inside), z) (i, (h, brace, (tree, q, r)), close) = (
+read_function_expression at own list body from a to (e, (d, (c, (ok, (b, word, named)), o), inside), z) (i, (h, brace, (tree, q, r)), close) = (
   t.Function (t.FunctionOf at own f.Plain list (t.BodyStatements tree)),
   sym (laws.function_expression_is at at own list tree) ∙ ap (λ u. p.function_expression at (p.function at own f.Plain list u)) q,
   word.0,
   plain_body at own list tree from b c d e a h i to word named o inside z brace r close,
 )
 
-pub r_function_statement : (at : ℕ) (own : Option Identifier) (list : List Identifier) (body : Sorted (t.list t.statement)) (from a to : Tokens) →
+pub read_function_statement : (at : ℕ) (own : Option Identifier) (list : List Identifier) (body : Sorted (t.list t.statement)) (from a to : Tokens) →
     ParametersTaken (g.Function at own role.Statement) list from a → ReadBraces body a to → ReadLine true false (p.function_statement (p.function at own f.Plain list body)) from to
 unfolding Spells
-r_function_statement at None list body from a to (e, (d, (c, (ok, (b, word, named)), o), inside), z) inner = absurd ok
-r_function_statement at (Some own) list body from a to (e, (d, (c, (ok, (b, word, named)), o), inside), z) (i, (h, brace, (tree, q, r)), close) =
+read_function_statement at None list body from a to (e, (d, (c, (ok, (b, word, named)), o), inside), z) inner = absurd ok
+read_function_statement at (Some own) list body from a to (e, (d, (c, (ok, (b, word, named)), o), inside), z) (i, (h, brace, (tree, q, r)), close) =
     let function : Tree t.function = t.FunctionOf at (Some own) f.Plain list (t.BodyStatements tree) in (
       t.FunctionStatement function,
       sym (laws.function_statement_is function) ∙ ap p.function_statement (sym (laws.function_is at (Some own) f.Plain list tree) ∙ ap (p.function at (Some own) f.Plain list) q),
@@ -57,10 +57,10 @@ r_function_statement at (Some own) list body from a to (e, (d, (c, (ok, (b, word
       plain_body at (Some own) list tree from b c d e a h i to word named o inside z brace r close,
     )
 
-pub r_function_default : (at : ℕ) (own : Option Identifier) (place : ℕ) (list : List Identifier) (body : Sorted (t.list t.statement)) (from a to : Tokens) →
+pub read_function_default : (at : ℕ) (own : Option Identifier) (place : ℕ) (list : List Identifier) (body : Sorted (t.list t.statement)) (from a to : Tokens) →
     ParametersTaken (g.Function at own (role.Default place)) list from a → ReadBraces body a to → ReadItem (p.default_function place (p.function at own f.Plain list body)) from to
 unfolding Spells
-r_function_default at own place list body from a to (e, (d, (c, (ok, (b, (n, (l, export, (there, default)), word), named)), o), inside), z) (i, (h, brace, (tree, q, r)), close) =
+read_function_default at own place list body from a to (e, (d, (c, (ok, (b, (n, (l, export, (there, default)), word), named)), o), inside), z) (i, (h, brace, (tree, q, r)), close) =
     let function : Tree t.function = t.FunctionOf at own f.Plain list (t.BodyStatements tree) in (
       t.ExportDefault place (t.DefaultFunction function) semi.Missing,
       sym (laws.default_function_is place function) ∙ ap (p.default_function place) (sym (laws.function_is at own f.Plain list tree) ∙ ap (p.function at own f.Plain list) q),
@@ -115,20 +115,20 @@ method_read holder start due list body from a to ok may is_due (e, (d, (c, (plac
     by key reading function kind.Value h r = absurd h
     by key reading function kind.Short h r = absurd h
 
-pub r_object_method : (start : MemberStart) (list : List Identifier) (body : Sorted (t.list t.statement)) (from a to : Tokens) → IsOfFunction start.kind → start.fixed ≡ false →
+pub read_object_method : (start : MemberStart) (list : List Identifier) (body : Sorted (t.list t.statement)) (from a to : Tokens) → IsOfFunction start.kind → start.fixed ≡ false →
     ParametersTaken (g.Method start) list from a → ReadBraces body a to → ReadMember InObject (ends.method start (ends.method_kind start.kind true false false) list body) from to
-r_object_method start list body from a to ok free taken read =
+read_object_method start list body from a to ok free taken read =
     method_read InObject start (ends.method_kind start.kind true false false) list body from a to ok (subst (λ b. may_be_fixed InObject b ≡ true) (sym free) refl) (λ key q. due_in_object start.kind start.fixed key ok) taken read
 
-pub r_class_method : (derived : Bool) (start : MemberStart) (list : List Identifier) (body : Sorted (t.list t.statement)) (from a to : Tokens) → IsOfFunction start.kind →
+pub read_class_method : (derived : Bool) (start : MemberStart) (list : List Identifier) (body : Sorted (t.list t.statement)) (from a to : Tokens) → IsOfFunction start.kind →
     ParametersTaken (g.Method start) list from a → ReadBraces body a to → ReadMember (InClass derived) (ends.method start (ends.method_kind start.kind start.fixed start.key.is_constructor derived) list body) from to
-r_class_method derived start list body from a to ok taken read =
+read_class_method derived start list body from a to ok taken read =
     method_read (InClass derived) start (ends.method_kind start.kind start.fixed start.key.is_constructor derived) list body from a to ok refl
     (λ key q. ap (λ u. ends.method_kind start.kind start.fixed u.is_constructor derived) (sym q) ∙ due_in_class start.kind start.fixed derived key ok) taken read
 
-pub r_computed_key : (part : Part) (from a b to : Tokens) → the "[" from a → Read part a b → 2 ≤ part.level → the "]" b to → ReadKey (p.computed_key part) from to
+pub read_computed_key : (part : Part) (from a b to : Tokens) → the "[" from a → Read part a b → 2 ≤ part.level → the "]" b to → ReadKey (p.computed_key part) from to
 unfolding Spells
-r_computed_key part from a b to o (e, q, w, r) h c =
+read_computed_key part from a b to o (e, q, w, r) h c =
     (t.KeyComputed e, sym (laws.computed_key_is part.at e) ∙ ap p.computed_key q, (a, o, (b, (subst (λ v. 2 ≤ v.level) (sym q) h, r), c)))
 
 no_static : (fixed : Bool) (from to : Tokens) → fixed ≡ false → static_before fixed from to → from ≡ to
@@ -138,42 +138,42 @@ no_static true from to e h = absurd (true≢false e)
 no_accessor : (kinded : MemberKind) (from to : Tokens) → kinded ≡ kind.Method → accessor_word kinded from to → from ≡ to
 no_accessor kinded from to e h = subst (λ u. accessor_word u from to) e h
 
-pub r_value_member : (start : MemberStart) (part : Part) (from a to : Tokens) → (start.fixed ≡ false) × (start.kind ≡ kind.Method) → (StartTaken start ⊳ the ":") from a → Read part a to → 2 ≤ part.level →
+pub read_value_member : (start : MemberStart) (part : Part) (from a to : Tokens) → (start.fixed ≡ false) × (start.kind ≡ kind.Method) → (StartTaken start ⊳ the ":") from a → Read part a to → 2 ≤ part.level →
     ReadMember InObject (p.value_member start.at start.key part) from to
 unfolding Spells
-r_value_member start part from a to (free, plain) (c, (place, (l, static, (n, accessor, (key, u, r)))), colon) (e, q, w, s) h =
+read_value_member start part from a to (free, plain) (c, (place, (l, static, (n, accessor, (key, u, r)))), colon) (e, q, w, s) h =
     let same : from ≡ n = no_static start.fixed from l free static ∙ no_accessor start.kind l n plain accessor in (
       t.MemberOf start.at false kind.Value key (t.present e) t.absent,
       sym (laws.value_member_is start.at part.at key e) ∙ ap₂ (p.value_member start.at) u q,
       (le-leb 2 (level e) (subst (λ v. 2 ≤ v.level) (sym q) h), (place, (c, subst (λ v. Spells key v c) (sym same) r, (a, colon, s)))),
     )
 
-pub r_short_member : (one : Identifier) (from to : Tokens) → name one from to → ReadMember InObject (p.short_member one) from to
+pub read_short_member : (one : Identifier) (from to : Tokens) → name one from to → ReadMember InObject (p.short_member one) from to
 unfolding Spells
-r_short_member one from to h = (t.MemberOf one.at false kind.Short (t.KeyWord one.name) t.absent t.absent, sym (laws.short_member_is one), (refl, h))
+read_short_member one from to h = (t.MemberOf one.at false kind.Short (t.KeyWord one.name) t.absent t.absent, sym (laws.short_member_is one), (refl, h))
 
-pub r_no_members : (now : Tokens) → ReadMembers none now now
+pub read_no_members : (now : Tokens) → ReadMembers none now now
 unfolding Spells
-r_no_members now = (t.none, sym cut_none, refl)
+read_no_members now = (t.none, sym cut_none, refl)
 
-pub r_members_comma : (list : Sorted (t.list t.member)) (from a to : Tokens) → ReadJoined list from a → the "," a to → ReadMembers list from to
-r_members_comma list from a to (tree, q, r) c = (tree, q, members_comma (Spells tree) from a to r c)
+pub read_members_comma : (list : Sorted (t.list t.member)) (from a to : Tokens) → ReadJoined list from a → the "," a to → ReadMembers list from to
+read_members_comma list from a to (tree, q, r) c = (tree, q, members_comma (Spells tree) from a to r c)
 
-pub r_members_last : (list : Sorted (t.list t.member)) (one : Sorted t.member) (from a to : Tokens) → ReadMembers list from a → ReadMember InObject one a to → ReadJoined (and_then list one) from to
-r_members_last list one from a to (tree, q, r) (last, u, s) =
+pub read_members_last : (list : Sorted (t.list t.member)) (one : Sorted t.member) (from a to : Tokens) → ReadMembers list from a → ReadMember InObject one a to → ReadJoined (and_then list one) from to
+read_members_last list one from a to (tree, q, r) (last, u, s) =
     (followed tree last, sym (cut_and_then tree last) ∙ ap₂ and_then q u, members_last {last = Spells last} (grown tree last) from a to r s)
 
 -- Classes.
 
-pub r_no_class_members : (derived : Bool) (now : Tokens) → ReadInClass derived none now now
+pub read_no_class_members : (derived : Bool) (now : Tokens) → ReadInClass derived none now now
 unfolding Spells
-r_no_class_members derived now = (t.none, sym cut_none, no_more)
+read_no_class_members derived now = (t.none, sym cut_none, no_more)
 
-pub r_class_semicolon : (derived : Bool) (list : Sorted (t.list t.member)) (from a to : Tokens) → ReadInClass derived list from a → the ";" a to → ReadInClass derived list from to
-r_class_semicolon derived list from a to (tree, q, r) c = (tree, q, class_semicolon derived (Spells tree) from a to r c)
+pub read_class_semicolon : (derived : Bool) (list : Sorted (t.list t.member)) (from a to : Tokens) → ReadInClass derived list from a → the ";" a to → ReadInClass derived list from to
+read_class_semicolon derived list from a to (tree, q, r) c = (tree, q, class_semicolon derived (Spells tree) from a to r c)
 
-pub r_class_more : (derived : Bool) (list : Sorted (t.list t.member)) (one : Sorted t.member) (from a to : Tokens) → ReadInClass derived list from a → ReadMember (InClass derived) one a to → ReadInClass derived (and_then list one) from to
-r_class_more derived list one from a to (tree, q, r) (last, u, s) =
+pub read_class_more : (derived : Bool) (list : Sorted (t.list t.member)) (one : Sorted t.member) (from a to : Tokens) → ReadInClass derived list from a → ReadMember (InClass derived) one a to → ReadInClass derived (and_then list one) from to
+read_class_more derived list one from a to (tree, q, r) (last, u, s) =
     (followed tree last, sym (cut_and_then tree last) ∙ ap₂ and_then q u, class_more derived {last = Spells last} (grown tree last) from a to r s)
 
 class_read : (named : Bool) (at : ℕ) (own : Option Identifier) (parent : Option (Sorted t.expression)) (members : Sorted (t.list t.member)) (from a b c d e to : Tokens) →
@@ -187,24 +187,24 @@ class_read named at own (Some of) members from a b c d e to (place, word) name_i
   (place, (a, word, (b, name_is, (h, extends, (c, (l, s), (d, brace, (e, r, close))))))),
 )
 
-pub r_class_expression : (at : ℕ) (own : Option Identifier) (parent : Option (Sorted t.expression)) (members : Sorted (t.list t.member)) (from a to : Tokens) →
+pub read_class_expression : (at : ℕ) (own : Option Identifier) (parent : Option (Sorted t.expression)) (members : Sorted (t.list t.member)) (from a to : Tokens) →
     MemberOpen (m.Class (record { at = at; name = own; role = role.Expression; parent = parent }) members) from a → the "}" a to → Read (p.class_expression at (p.class at own parent members)) from to
 unfolding Spells
-r_class_expression at own parent members from a to (d, (c, (b, (ok, (h, word, named)), behind), brace), inner) close =
+read_class_expression at own parent members from a to (d, (c, (b, (ok, (h, word, named)), behind), brace), inner) close =
     let (tree, q, r) = class_read false at own parent members from h b c d a to word named behind brace inner close in
     (t.Class tree, sym (laws.class_expression_is at tree) ∙ ap (p.class_expression at) q, word.0, r)
 
-pub r_class_statement : (at : ℕ) (own : Option Identifier) (parent : Option (Sorted t.expression)) (members : Sorted (t.list t.member)) (from a to : Tokens) →
+pub read_class_statement : (at : ℕ) (own : Option Identifier) (parent : Option (Sorted t.expression)) (members : Sorted (t.list t.member)) (from a to : Tokens) →
     MemberOpen (m.Class (record { at = at; name = own; role = role.Statement; parent = parent }) members) from a → the "}" a to → ReadLine true false (p.class_statement (p.class at own parent members)) from to
 unfolding Spells
-r_class_statement at None parent members from a to (d, (c, (b, (ok, (h, word, named)), behind), brace), inner) close = absurd ok
-r_class_statement at (Some own) parent members from a to (d, (c, (b, (ok, (h, word, named)), behind), brace), inner) close =
+read_class_statement at None parent members from a to (d, (c, (b, (ok, (h, word, named)), behind), brace), inner) close = absurd ok
+read_class_statement at (Some own) parent members from a to (d, (c, (b, (ok, (h, word, named)), behind), brace), inner) close =
     let (tree, q, r) = class_read true at (Some own) parent members from h b c d a to word named behind brace inner close in
     (t.ClassStatement tree, sym (laws.class_statement_is tree) ∙ ap p.class_statement q, refl, refl, r)
 
-pub r_class_default : (at place : ℕ) (own : Option Identifier) (parent : Option (Sorted t.expression)) (members : Sorted (t.list t.member)) (from a to : Tokens) →
+pub read_class_default : (at place : ℕ) (own : Option Identifier) (parent : Option (Sorted t.expression)) (members : Sorted (t.list t.member)) (from a to : Tokens) →
     MemberOpen (m.Class (record { at = at; name = own; role = role.Default place; parent = parent }) members) from a → the "}" a to → ReadItem (p.default_class place (p.class at own parent members)) from to
 unfolding Spells
-r_class_default at place own parent members from a to (d, (c, (b, (ok, (h, (n, (l, export, (there, default)), word), named)), behind), brace), inner) close =
+read_class_default at place own parent members from a to (d, (c, (b, (ok, (h, (n, (l, export, (there, default)), word), named)), behind), brace), inner) close =
     let (tree, q, r) = class_read false at own parent members n h b c d a to word named behind brace inner close in
     (t.ExportDefault place (t.DefaultClass tree) semi.Missing, sym (laws.default_class_is place tree) ∙ ap (p.default_class place) q, (l, export, (there, (n, default, (refl, r)))))

@@ -38,36 +38,36 @@ use Rattle.js_parser.proofs.FormLaws as laws
 use Rattle.js_parser.proofs.WordLaws.{Is, kind_is, begins_no_body, no_body_is}
 use Rattle.js_parser.proofs.SoundLists.{each_last, each_comma, names_joined, names_commaed}
 use Rattle.js_parser.proofs.SoundStates.{Opened, Holds, DueHolds, MemberHolds, NextHolds, ExpressionFits, ExpressionTaken, MemberTaken, ReadKey, NamedAs, MemberBefore, StartTaken, StartFits, FixedFits, IsOfFunction, IsAccessor, ShortIs, SignatureFits, ClassHead, RoleFits, BehindRole, PartParameters, NextParameters, ArrowTaken, kind_of, lowest}
-use Rattle.js_parser.proofs.SoundForms.{and_true, r_none, r_dot, r_super_dot, r_object, r_joined_object}
-use Rattle.js_parser.proofs.SoundMemberForms.{r_short_member, r_members_comma, r_no_class_members, r_class_semicolon}
-use Rattle.js_parser.proofs.SoundStatementForms.{r_no_statements}
+use Rattle.js_parser.proofs.SoundForms.{and_true, read_none, read_dot, read_super_dot, read_object, read_joined_object}
+use Rattle.js_parser.proofs.SoundMemberForms.{read_short_member, read_members_comma, read_no_class_members, read_class_semicolon}
+use Rattle.js_parser.proofs.SoundStatementForms.{read_no_statements}
 use Rattle.js_parser.proofs.SoundEnds.{split, class_end_holds}
 use Rattle.js_parser.proofs.SoundBegins.{operand_holds}
 use Rattle.js_parser.proofs.SoundSettle.{object_next_holds}
 
 -- Keys.
 
-r_word_key : (token : Token) (text : Text) (now : Tokens) → plain_name token.kind ≡ Some text → ReadKey (p.key (t.KeyWord text)) (token ∷ now) now
+read_word_key : (token : Token) (text : Text) (now : Tokens) → plain_name token.kind ≡ Some text → ReadKey (p.key (t.KeyWord text)) (token ∷ now) now
 unfolding Spells
-r_word_key token text now e = (t.KeyWord text, sym (laws.key_word_is text), (e, refl))
+read_word_key token text now e = (t.KeyWord text, sym (laws.key_word_is text), (e, refl))
 
-r_string_key : (token : Token) (text : Text) (now : Tokens) → token.kind ≡ k.String text → ReadKey (p.key (t.KeyString text)) (token ∷ now) now
+read_string_key : (token : Token) (text : Text) (now : Tokens) → token.kind ≡ k.String text → ReadKey (p.key (t.KeyString text)) (token ∷ now) now
 unfolding Spells
-r_string_key token text now e = (t.KeyString text, sym (laws.key_string_is text), (e, refl))
+read_string_key token text now e = (t.KeyString text, sym (laws.key_string_is text), (e, refl))
 
-r_number_key : (token : Token) (number : ℤ) (now : Tokens) → token.kind ≡ k.Number number → ReadKey (p.key (t.KeyNumber number)) (token ∷ now) now
+read_number_key : (token : Token) (number : ℤ) (now : Tokens) → token.kind ≡ k.Number number → ReadKey (p.key (t.KeyNumber number)) (token ∷ now) now
 unfolding Spells
-r_number_key token number now e = (t.KeyNumber number, sym (laws.key_number_is number), (e, refl))
+read_number_key token number now e = (t.KeyNumber number, sym (laws.key_number_is number), (e, refl))
 
-r_static_key : (from to : Tokens) → the "static" from to → ReadKey (p.key (t.KeyWord (codes "static"))) from to
+read_static_key : (from to : Tokens) → the "static" from to → ReadKey (p.key (t.KeyWord (codes "static"))) from to
 unfolding Spells word
-r_static_key [] to h = absurd h
-r_static_key (token ∷ tokens) to (e, same) = (t.KeyWord (codes "static"), sym (laws.key_word_is (codes "static")), (ap plain_name e, same))
+read_static_key [] to h = absurd h
+read_static_key (token ∷ tokens) to (e, same) = (t.KeyWord (codes "static"), sym (laws.key_word_is (codes "static")), (ap plain_name e, same))
 
-r_name_key : (one : Identifier) (from to : Tokens) → name one from to → ReadKey (p.key (t.KeyWord one.name)) from to
+read_name_key : (one : Identifier) (from to : Tokens) → name one from to → ReadKey (p.key (t.KeyWord one.name)) from to
 unfolding Spells
-r_name_key one [] to h = absurd h
-r_name_key one (token ∷ tokens) to ((e, at), same) = (t.KeyWord one.name, sym (laws.key_word_is one.name), (ap plain_name e, same))
+read_name_key one [] to h = absurd h
+read_name_key one (token ∷ tokens) to ((e, at), same) = (t.KeyWord one.name, sym (laws.key_word_is one.name), (ap plain_name e, same))
 
 -- the word of an accessor
 accessor_read : (kinded : MemberKind) (one : Identifier) (from to : Tokens) → IsAccessor kinded one → name one from to → accessor_word kinded from to
@@ -157,7 +157,7 @@ module _ (whole : Tokens) where
 
   super_arguments_holds : (frames : Frames) (at : ℕ) (token : Token) (from now : Tokens) → Opened whole frames from → lowest frames ≤ 17 → here at (the "super") from (token ∷ now) → token.kind ≡ word "(" → Holds whole (super_arguments frames at) now
   super_arguments_holds (f.Expression (x.New place) ∷ frames) at token from now h low taken e = tt
-  super_arguments_holds frames at token from now h low taken e = ((from, h, low, (now, (token ∷ now, taken, (e, refl)), r_none now)), omega arith)
+  super_arguments_holds frames at token from now h low taken e = ((from, h, low, (now, (token ∷ now, taken, (e, refl)), read_none now)), omega arith)
 
   super_word_holds : (frames : Frames) (at : ℕ) (token : Token) (from now : Tokens) (one : Word) → Opened whole frames from → lowest frames ≤ 17 → here at (the "super") from (token ∷ now) → Is one token.kind → Holds whole (super_word frames at one) now
   super_word_holds frames at token from now w.Point h low taken e = (from, h, low, (token ∷ now, taken, (e, refl)))
@@ -172,16 +172,16 @@ module _ (whole : Tokens) where
 
   arrow_body_holds : (frames : Frames) (at : ℕ) (list : List Identifier) (token : Token) (from now : Tokens) (one : Word) → Opened whole frames from → lowest frames ≤ 2 → ArrowTaken at list from (token ∷ now) →
       Is one token.kind → the_word token ≡ one → Holds whole (arrow_body frames at list token one) now
-  arrow_body_holds frames at list token from now w.LeftBrace h low taken e q = ((from, h, low, (now, (token ∷ now, taken, (e, refl)), r_no_statements now)), tt)
+  arrow_body_holds frames at list token from now w.LeftBrace h low taken e q = ((from, h, low, (now, (token ∷ now, taken, (e, refl)), read_no_statements now)), tt)
   arrow_body_holds frames at list token from now _ h low taken e q =
       operand_holds whole (f.Expression (x.Arrow at list) ∷ frames) token now (omega arith) (from, h, low, (taken, sym (no_body_is token) ∙ ap begins_no_body q))
 
   pub expression_step_holds : (due : ExpressionDue) (frames : Frames) (token : Token) (now : Tokens) → DueHolds whole frames (ExpressionFits due frames) (ExpressionTaken due) (token ∷ now) → Holds whole (expression_step due frames token) now
   expression_step_holds (xd.Property part) frames token now (from, h, low, (a, base, point)) =
-      property_by (λ st. Holds whole st now) (plain_name token.kind) _ (λ text q. (from, h, low, low, r_dot part text from a (token ∷ now) now base point (q, refl))) tt
+      property_by (λ st. Holds whole st now) (plain_name token.kind) _ (λ text q. (from, h, low, low, read_dot part text from a (token ∷ now) now base point (q, refl))) tt
   expression_step_holds (xd.Super at) frames token now (from, h, low, taken) = super_word_holds frames at token from now (the_word token) h low taken (kind_is token.kind)
   expression_step_holds (xd.SuperProperty at) frames token now (from, h, low, (a, base, point)) =
-      property_by (λ st. Holds whole st now) (plain_name token.kind) _ (λ text q. (from, h, low, low, r_super_dot at text from a (token ∷ now) now base point (q, refl))) tt
+      property_by (λ st. Holds whole st now) (plain_name token.kind) _ (λ text q. (from, h, low, low, read_super_dot at text from a (token ∷ now) now base point (q, refl))) tt
   expression_step_holds (xd.Arrow at list) frames token now (from, h, low, taken) = arrow_word_holds frames at list token from now (the_word token) token.line_before h low taken (kind_is token.kind) refl
   expression_step_holds (xd.ArrowBody at list) frames token now (from, h, low, taken) = arrow_body_holds frames at list token from now (the_word token) h low taken (kind_is token.kind) refl
 
@@ -189,7 +189,7 @@ module _ (whole : Tokens) where
 
   keyword_key_holds : (frames : Frames) (at : ℕ) (fixed : Bool) (kinded : MemberKind) (token : Token) (from now : Tokens) (named : Option Text) → Opened whole frames from → StartFits fixed kinded frames → MemberBefore at fixed kinded from (token ∷ now) →
       plain_name token.kind ≡ named → Holds whole (keyword_key frames at fixed kinded named) now
-  keyword_key_holds frames at fixed kinded token from now (Some text) h fits (place, (l, static, before)) e = (from, h, fits, ((place, (l, static, (token ∷ now, before, r_word_key token text now e))), tt))
+  keyword_key_holds frames at fixed kinded token from now (Some text) h fits (place, (l, static, before)) e = (from, h, fits, ((place, (l, static, (token ∷ now, before, read_word_key token text now e))), tt))
   keyword_key_holds frames at fixed kinded token from now None h fits taken e = tt
 
   sign_key_holds : (frames : Frames) (at : ℕ) (fixed : Bool) (kinded : MemberKind) (token : Token) (from now : Tokens) (one : Word) → Opened whole frames from → StartFits fixed kinded frames → MemberBefore at fixed kinded from (token ∷ now) →
@@ -204,13 +204,13 @@ module _ (whole : Tokens) where
     h,
     fits,
     (
-      (place, (l, static, (token ∷ now, before, r_word_key token text now (ap plain_name e)))),
+      (place, (l, static, (token ∷ now, before, read_word_key token text now (ap plain_name e)))),
       short_by (ident token.at text) fixed kinded from now (λ free plain. subst (λ u. name (ident token.at text) u now) (sym (alone free plain)) ((e, refl), refl)),
     ),
   )
   key_kind_holds frames at fixed kinded token from now (k.Keyword number) h fits taken alone e = keyword_key_holds frames at fixed kinded token from now (plain_name (k.Keyword number)) h fits taken (ap plain_name e)
-  key_kind_holds frames at fixed kinded token from now (k.String text) h fits (place, (l, static, before)) alone e = (from, h, fits, ((place, (l, static, (token ∷ now, before, r_string_key token text now e))), tt))
-  key_kind_holds frames at fixed kinded token from now (k.Number number) h fits (place, (l, static, before)) alone e = (from, h, fits, ((place, (l, static, (token ∷ now, before, r_number_key token number now e))), tt))
+  key_kind_holds frames at fixed kinded token from now (k.String text) h fits (place, (l, static, before)) alone e = (from, h, fits, ((place, (l, static, (token ∷ now, before, read_string_key token text now e))), tt))
+  key_kind_holds frames at fixed kinded token from now (k.Number number) h fits (place, (l, static, before)) alone e = (from, h, fits, ((place, (l, static, (token ∷ now, before, read_number_key token number now e))), tt))
   key_kind_holds frames at fixed kinded token from now (k.Sign number) h fits taken alone e =
       sign_key_holds frames at fixed kinded token from now (sign_word number) h fits taken (subst (λ u. Is (sign_word number) u) (sym e) (kind_is (k.Sign number)))
   key_kind_holds frames at fixed kinded token from now _ h fits taken alone e = tt
@@ -248,9 +248,9 @@ module _ (whole : Tokens) where
   object_key_holds at members frames start short kinded token from now w.LeftParen h fits taken alone q e = parameters_hold (f.Member (m.Object at members) ∷ frames) start token from now h fits taken e
   object_key_holds at members frames start short kind.Method token from now w.Colon h (free, ok) taken alone q e = ((from, h, (free, q), (token ∷ now, taken, (e, refl))), omega arith)
   object_key_holds at members frames start (Some own) kind.Method token from now w.Comma h (free, ok) taken alone q e =
-      object_next_holds whole (f.Member (m.Object at members) ∷ frames) (p.short_member own) token from now w.Comma h (r_short_member own from (token ∷ now) (short_named own start.fixed start.kind from (token ∷ now) free q alone)) e
+      object_next_holds whole (f.Member (m.Object at members) ∷ frames) (p.short_member own) token from now w.Comma h (read_short_member own from (token ∷ now) (short_named own start.fixed start.kind from (token ∷ now) free q alone)) e
   object_key_holds at members frames start (Some own) kind.Method token from now w.RightBrace h (free, ok) taken alone q e =
-      object_next_holds whole (f.Member (m.Object at members) ∷ frames) (p.short_member own) token from now w.RightBrace h (r_short_member own from (token ∷ now) (short_named own start.fixed start.kind from (token ∷ now) free q alone)) e
+      object_next_holds whole (f.Member (m.Object at members) ∷ frames) (p.short_member own) token from now w.RightBrace h (read_short_member own from (token ∷ now) (short_named own start.fixed start.kind from (token ∷ now) free q alone)) e
   object_key_holds at members frames start short kinded token from now _ h fits taken alone q e = tt
 
   class_key_holds : (frames : Frames) (start : MemberStart) (token : Token) (from now : Tokens) (one : Word) → Opened whole frames from → StartFits start.fixed start.kind frames → StartTaken start from (token ∷ now) →
@@ -267,7 +267,7 @@ module _ (whole : Tokens) where
   word_key_holds : (frames : Frames) (at : ℕ) (fixed : Bool) (own : Identifier) (token : Token) (from a now : Tokens) (one : Word) → Opened whole frames from → FixedFits fixed frames → here at (static_before fixed) from a → name own a (token ∷ now) →
       Is one token.kind → Holds whole (key_next frames (start_of at fixed kind.Method (p.key (t.KeyWord own.name))) (Some own) one) now
   word_key_holds frames at fixed own token from a now one h fits (place, static) named e =
-      key_next_holds frames (start_of at fixed kind.Method (p.key (t.KeyWord own.name))) (Some own) token from now one h (fits, tt) (place, (a, static, (a, refl, r_name_key own a (token ∷ now) named)))
+      key_next_holds frames (start_of at fixed kind.Method (p.key (t.KeyWord own.name))) (Some own) token from now one h (fits, tt) (place, (a, static, (a, refl, read_name_key own a (token ∷ now) named)))
       (short_by own fixed kind.Method from (token ∷ now) (λ free plain. subst (λ u. name own u (token ∷ now)) (sym (subst (λ b. static_before b from a) free static)) named)) e
 
   accessor_holds : (frames : Frames) (at : ℕ) (fixed : Bool) (kinded : MemberKind) (own : Identifier) (token : Token) (from a now : Tokens) (one : Word) → Opened whole frames from → FixedFits fixed frames → IsAccessor kinded own →
@@ -283,19 +283,19 @@ module _ (whole : Tokens) where
   fixed_member_holds : (frames : Frames) (at : ℕ) (token : Token) (from now : Tokens) (one : Word) → Opened whole frames from → FixedFits true frames → here at (the "static") from (token ∷ now) → Is one token.kind →
       Holds whole (fixed_member frames at token one) now
   fixed_member_holds frames at token from now w.LeftParen h fits (place, taken) e =
-      key_next_holds frames (start_of at false kind.Method (p.key (t.KeyWord (codes "static")))) None token from now w.LeftParen h (free_of_static frames, tt) (place, (from, refl, (from, refl, r_static_key from (token ∷ now) taken))) tt e
+      key_next_holds frames (start_of at false kind.Method (p.key (t.KeyWord (codes "static")))) None token from now w.LeftParen h (free_of_static frames, tt) (place, (from, refl, (from, refl, read_static_key from (token ∷ now) taken))) tt e
   fixed_member_holds frames at token from now _ h fits taken e = member_start_holds frames at true token from now h fits taken
 
   object_member_holds : (frames : Frames) (at : ℕ) (members : Sorted (t.list t.member)) (token : Token) (now : Tokens) (one : Word) → Opened whole (f.Member (m.Object at members) ∷ frames) (token ∷ now) → Is one token.kind →
       Holds whole (object_member frames at members token one) now
-  object_member_holds frames at members token now w.RightBrace (start, opened, low, (b, brace, taken)) e = (start, opened, low, omega (arith, low), r_object at members start b (token ∷ now) now brace taken (e, refl))
+  object_member_holds frames at members token now w.RightBrace (start, opened, low, (b, brace, taken)) e = (start, opened, low, omega (arith, low), read_object at members start b (token ∷ now) now brace taken (e, refl))
   object_member_holds frames at members token now _ h e = member_start_holds (f.Member (m.Object at members) ∷ frames) token.at false token (token ∷ now) now h refl (refl, refl)
 
   class_member_holds : (frames : Frames) (start : ClassStart) (members : Sorted (t.list t.member)) (token : Token) (now : Tokens) (one : Word) → Opened whole (f.Member (m.Class start members) ∷ frames) (token ∷ now) → Is one token.kind →
       Holds whole (class_member frames start members token one) now
   class_member_holds frames start members token now w.RightBrace h e = class_end_holds whole frames start members (token ∷ now) now h (e, refl)
   class_member_holds frames start members token now w.Semicolon (from, opened, fits, (b, before, taken)) e =
-      (now, (from, opened, fits, (b, before, r_class_semicolon (is_derived start) members b (token ∷ now) now taken (e, refl))), tt, refl)
+      (now, (from, opened, fits, (b, before, read_class_semicolon (is_derived start) members b (token ∷ now) now taken (e, refl))), tt, refl)
   class_member_holds frames start members token now w.Static h e = (token ∷ now, h, tt, (refl, (e, refl)))
   class_member_holds frames start members token now _ h e = member_start_holds (f.Member (m.Class start members) ∷ frames) token.at false token (token ∷ now) now h tt (refl, refl)
 
@@ -306,9 +306,9 @@ module _ (whole : Tokens) where
 
   member_next_holds : (frames : Frames) (token : Token) (now : Tokens) (one : Word) → NextHolds whole frames (token ∷ now) → Is one token.kind → Holds whole (member_next frames one) now
   member_next_holds (f.Member (m.Object at members) ∷ frames) token now w.Comma (from, opened, low, (b, brace, taken)) e =
-      (now, (from, opened, low, (b, brace, r_members_comma members b (token ∷ now) now taken (e, refl))), tt, refl)
+      (now, (from, opened, low, (b, brace, read_members_comma members b (token ∷ now) now taken (e, refl))), tt, refl)
   member_next_holds (f.Member (m.Object at members) ∷ frames) token now w.RightBrace (from, opened, low, (b, brace, taken)) e =
-      (from, opened, low, omega (arith, low), r_joined_object at members from b (token ∷ now) now brace taken (e, refl))
+      (from, opened, low, omega (arith, low), read_joined_object at members from b (token ∷ now) now brace taken (e, refl))
   member_next_holds (f.Member (m.Object at members) ∷ frames) token now _ h e = tt
   member_next_holds _ token now one h e = absurd h
 
@@ -349,7 +349,7 @@ module _ (whole : Tokens) where
       Is one token.kind → Holds whole (class_next frames at own stands one) now
   class_next_holds frames at own stands token from now w.Extends h fits taken e = ((from, h, fits, (token ∷ now, taken, (e, refl))), omega arith)
   class_next_holds frames at own stands token from now w.LeftBrace h fits taken e =
-      (now, (from, h, fits, (now, (token ∷ now, (token ∷ now, taken, refl), (e, refl)), r_no_class_members false now)), tt, refl)
+      (now, (from, h, fits, (now, (token ∷ now, (token ∷ now, taken, refl), (e, refl)), read_no_class_members false now)), tt, refl)
   class_next_holds frames at own stands token from now _ h fits taken e = tt
 
   class_name_holds : (frames : Frames) (at : ℕ) (stands : Role) (token : Token) (from now : Tokens) (what : TokenKind) (one : Word) → Opened whole frames from → RoleFits stands frames → BehindRole stands (here at (the "class")) from (token ∷ now) →
@@ -372,6 +372,6 @@ module _ (whole : Tokens) where
   member_step_holds (md.Parameter signature list) frames token now (from, h, fits, taken) = parameter_holds frames signature list token from now token.kind (the_word token) h fits taken refl (kind_is token.kind)
   member_step_holds (md.ParameterNext signature list) frames token now (from, h, fits, taken) = parameter_next_holds frames signature list token from now (the_word token) h fits taken (kind_is token.kind)
   member_step_holds (md.Body signature list) frames token now (from, h, fits, taken) =
-      open_brace_by (λ st. Holds whole st now) token (the_word token) _ (kind_is token.kind) (λ e. ((from, h, fits, (now, (token ∷ now, taken, (e, refl)), r_no_statements now)), tt)) tt
+      open_brace_by (λ st. Holds whole st now) token (the_word token) _ (kind_is token.kind) (λ e. ((from, h, fits, (now, (token ∷ now, taken, (e, refl)), read_no_statements now)), tt)) tt
   member_step_holds (md.ClassName at stands) frames token now (from, h, fits, taken) = class_name_holds frames at stands token from now token.kind (the_word token) h fits taken refl (kind_is token.kind)
   member_step_holds (md.ClassNext at own stands) frames token now (from, h, fits, taken) = class_next_holds frames at own stands token from now (the_word token) h fits taken (kind_is token.kind)

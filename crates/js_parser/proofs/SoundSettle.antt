@@ -42,11 +42,11 @@ use Rattle.parser_forms.specs.State.{Frames, State, fail, operand_due, the_word}
 use Rattle.parser_forms.specs.Settle.{statement_end, item_end, may, names_end, arrow_where, taken_as, taken_by, taken, arguments_end, items_end, template_end, at_paren, at_bracket, at_colon, at_semicolon, at_brace, object_next, test_end, initialiser_end, ended, new_end, closed, settle}
 use Rattle.js_parser.proofs.WordLaws.{Is, kind_is, may_miss_is, IsInfix, IsAssignment, IsSign, infix_is, assignment_is}
 use Rattle.js_parser.proofs.SoundStates.{Opened, Holds, Takes, DeclareFits, Fits, Taken, Read, ReadItem, ReadLine, ReadMember, BehindDeclare, TestTaken, lowest_of, lowest}
-use Rattle.js_parser.proofs.SoundForms.{read_of, r_none, r_last, r_comma, r_called, r_array, r_paren, r_index, r_super_index, r_pieces_more, r_template, r_update_before, r_update_behind, r_bare_new, r_prefix, r_infix, r_conditional, r_assign, r_arrow}
-use Rattle.js_parser.proofs.SoundMemberForms.{r_value_member, r_members_last, r_members_comma, r_no_class_members, r_computed_key}
-use Rattle.js_parser.proofs.SoundForms.{r_joined_object}
-use Rattle.js_parser.proofs.SoundStatementForms.{ReadDeclared, r_value, r_declare, r_head_declare, r_head_value, r_there, r_initialised_comma, r_initialised_last, r_return, r_throw, r_no_statements, r_default_value}
-use Rattle.js_parser.proofs.SoundHeads.{r_head}
+use Rattle.js_parser.proofs.SoundForms.{read_of, read_none, read_last, read_comma, read_called, read_array, read_paren, read_index, read_super_index, read_pieces_more, read_template, read_update_before, read_update_behind, read_bare_new, read_prefix, read_infix, read_conditional, read_assign, read_arrow}
+use Rattle.js_parser.proofs.SoundMemberForms.{read_value_member, read_members_last, read_members_comma, read_no_class_members, read_computed_key}
+use Rattle.js_parser.proofs.SoundForms.{read_joined_object}
+use Rattle.js_parser.proofs.SoundStatementForms.{ReadDeclared, read_value, read_declare, read_head_declare, read_head_value, read_there, read_initialised_comma, read_initialised_last, read_return, read_throw, read_no_statements, read_default_value}
+use Rattle.js_parser.proofs.SoundHeads.{read_head}
 use Rattle.js_parser.proofs.SoundEnds.{split, put_item_holds, put_holds}
 use Rattle.js_parser.proofs.SoundBegins.{lowest_most, called_level, close_item_holds, close_holds}
 
@@ -73,7 +73,7 @@ infix_most : (operator : Infix) → infix_level operator ≤ 17
 infix_most (i.Binary operator) = binary_most operator
 infix_most _ = omega arith
 
-slot_is : (frame : Frame) → 1 ≤ slot_of frame
+pub slot_is : (frame : Frame) → 1 ≤ slot_of frame
 slot_is (f.Expression (x.Infix operator left)) = (right_is operator).0
 slot_is (f.Member (m.Object at members)) = omega arith
 slot_is (f.Statement s.Value) = omega arith
@@ -126,17 +126,17 @@ module _ (whole : Tokens) where
       BehindDeclare use_of (declaring_word constant) from a → ReadDeclared constant names a (token ∷ now) → Holds whole (names_end frames constant names use_of token) now
   names_end_holds frames constant names d.Statement token from a now fits h before r =
       statement_end_holds true frames (p.declare constant names) (may token) reading.may_miss token from now (the_word token) (kind_is token.kind) fits h (λ e q. sym (may_miss_is token) ∙ q)
-      (λ mark to c. r_declare constant names mark from a (token ∷ now) to before r c)
+      (λ mark to c. read_declare constant names mark from a (token ∷ now) to before r c)
   names_end_holds frames constant names d.For token from a now fits h (b, before, begins) r =
       semicolon_by (λ st. Holds whole st now) token (the_word token) _ (kind_is token.kind)
-      (λ e. (from, h, fits, (token ∷ now, (b, before, r_head_declare constant names b a (token ∷ now) begins r), (e, refl)))) tt
+      (λ e. (from, h, fits, (token ∷ now, (b, before, read_head_declare constant names b a (token ∷ now) begins r), (e, refl)))) tt
 
   -- The expression goes on.
 
   arrow_where_holds : (frames : Frames) (part : Part) (token : Token) (from now : Tokens) (names : Option (List Identifier)) → Opened whole frames from → lowest frames ≤ 2 → Read part from (token ∷ now) → head_of part.heading ≡ names →
       token.line_before ≡ false → token.kind ≡ word "=>" → Holds whole (arrow_where frames part.at names) now
   arrow_where_holds frames part token from now (Some list) h low r q line e =
-      let (place, names) = r_head part list from (token ∷ now) r q in (from, h, low, (place, (token ∷ now, names, (line, (e, refl)))))
+      let (place, names) = read_head part list from (token ∷ now) r q in (from, h, low, (place, (token ∷ now, names, (line, (e, refl)))))
   arrow_where_holds frames part token from now None h low r q line e = tt
 
   taken_as_holds : (frames : Frames) (part : Part) (token : Token) (from now : Tokens) (one : Word) (line : Bool) → Opened whole frames from → lowest frames ≤ 17 → Read part from (token ∷ now) → Is one token.kind → token.line_before ≡ line →
@@ -147,15 +147,15 @@ module _ (whole : Tokens) where
       split (λ st. Holds whole st now) (nat_le 4 part.level) _ _ (λ c. ((from, h, omega (arith, most, least), (token ∷ now, (leb-true _ _ c, r), (e, refl))), omega arith)) (λ c. tt)
   taken_as_holds frames part token from now w.PlusPlus true h low r e q pos most least = absurd (omega (arith, pos, most))
   taken_as_holds frames part token from now w.PlusPlus false h low r e q pos most least =
-      split (λ st. Holds whole st now) part.is_target _ _ (λ c. (from, h, low, omega (arith, most, least), r_update_behind true part from (token ∷ now) now r c q (e, refl))) (λ c. tt)
+      split (λ st. Holds whole st now) part.is_target _ _ (λ c. (from, h, low, omega (arith, most, least), read_update_behind true part from (token ∷ now) now r c q (e, refl))) (λ c. tt)
   taken_as_holds frames part token from now w.MinusMinus true h low r e q pos most least = absurd (omega (arith, pos, most))
   taken_as_holds frames part token from now w.MinusMinus false h low r e q pos most least =
-      split (λ st. Holds whole st now) part.is_target _ _ (λ c. (from, h, low, omega (arith, most, least), r_update_behind false part from (token ∷ now) now r c q (e, refl))) (λ c. tt)
+      split (λ st. Holds whole st now) part.is_target _ _ (λ c. (from, h, low, omega (arith, most, least), read_update_behind false part from (token ∷ now) now r c q (e, refl))) (λ c. tt)
   taken_as_holds frames part token from now w.Point line h low r e q pos most least = split (λ st. Holds whole st now) (is_base part) _ _ (λ c. (from, h, low, (token ∷ now, (c, r), (e, refl)))) (λ c. tt)
   taken_as_holds frames part token from now w.LeftBracket line h low r e q pos most least =
       split (λ st. Holds whole st now) (is_base part) _ _ (λ c. ((from, h, low, (token ∷ now, (c, r), (e, refl))), omega arith)) (λ c. tt)
   taken_as_holds frames part token from now w.LeftParen line h low r e q pos most least =
-      split (λ st. Holds whole st now) (is_base part) _ _ (λ c. ((from, h, low, (now, (token ∷ now, (c, r), (e, refl)), r_none now)), omega arith)) (λ c. tt)
+      split (λ st. Holds whole st now) (is_base part) _ _ (λ c. ((from, h, low, (now, (token ∷ now, (c, r), (e, refl)), read_none now)), omega arith)) (λ c. tt)
   taken_as_holds frames part token from now _ line h low r e q pos most least = tt
 
   taken_by_holds : (frames : Frames) (part : Part) (token : Token) (from now : Tokens) (infix_one : Option Infix) (assignment : Option (Option BinaryOperator)) (one : Word) → Opened whole frames from → lowest frames ≤ 17 →
@@ -178,31 +178,31 @@ module _ (whole : Tokens) where
   arguments_end_holds : (frames : Frames) (of : Callee) (list : Sorted (t.list t.expression)) (part : Part) (token : Token) (start from now : Tokens) (one : Word) → Opened whole frames start → lowest frames ≤ 17 →
       Taken (f.Expression (x.Arguments of list)) start from → 2 ≤ part.level → Read part from (token ∷ now) → Is one token.kind → Holds whole (arguments_end frames of (and_then list part.of) one) now
   arguments_end_holds frames of list part token start from now w.RightParen h low (b, (a, before, o), taken) least r e =
-      (start, h, low, called_level of (and_then list part.of) (lowest frames) low, r_called of (and_then list part.of) start a b (token ∷ now) now before o (r_last list part b from (token ∷ now) taken r least) (e, refl))
-  arguments_end_holds frames of list part token start from now w.Comma h low (b, before, taken) least r e = ((start, h, low, (b, before, r_comma list part b from (token ∷ now) now taken r least (e, refl))), omega arith)
+      (start, h, low, called_level of (and_then list part.of) (lowest frames) low, read_called of (and_then list part.of) start a b (token ∷ now) now before o (read_last list part b from (token ∷ now) taken r least) (e, refl))
+  arguments_end_holds frames of list part token start from now w.Comma h low (b, before, taken) least r e = ((start, h, low, (b, before, read_comma list part b from (token ∷ now) now taken r least (e, refl))), omega arith)
   arguments_end_holds frames of list part token start from now _ h low taken least r e = tt
 
   items_end_holds : (frames : Frames) (at : ℕ) (list : Sorted (t.list t.expression)) (part : Part) (token : Token) (start from now : Tokens) (one : Word) → Opened whole frames start → lowest frames ≤ 17 →
       Taken (f.Expression (x.Array at list)) start from → 2 ≤ part.level → Read part from (token ∷ now) → Is one token.kind → Holds whole (items_end frames at (and_then list part.of) one) now
   items_end_holds frames at list part token start from now w.RightBracket h low (a, before, taken) least r e =
-      (start, h, low, omega (arith, low), r_array at (and_then list part.of) start a (token ∷ now) now before (r_last list part a from (token ∷ now) taken r least) (e, refl))
-  items_end_holds frames at list part token start from now w.Comma h low (a, before, taken) least r e = ((start, h, low, (a, before, r_comma list part a from (token ∷ now) now taken r least (e, refl))), omega arith)
+      (start, h, low, omega (arith, low), read_array at (and_then list part.of) start a (token ∷ now) now before (read_last list part a from (token ∷ now) taken r least) (e, refl))
+  items_end_holds frames at list part token start from now w.Comma h low (a, before, taken) least r e = ((start, h, low, (a, before, read_comma list part a from (token ∷ now) now taken r least (e, refl))), omega arith)
   items_end_holds frames at list part token start from now _ h low taken least r e = tt
 
   template_end_holds : (frames : Frames) (at : ℕ) (texts : List Text) (values : Sorted (t.list t.expression)) (part : Part) (token : Token) (start from now : Tokens) (kind : TokenKind) → Opened whole frames start → lowest frames ≤ 17 →
       Taken (f.Expression (x.Template at texts values)) start from → Read part from (token ∷ now) → token.kind ≡ kind → Holds whole (template_end frames at texts (and_then values part.of) kind) now
   template_end_holds frames at texts values part token start from now (k.Template text false true) h low taken r e =
-      (start, h, low, omega (arith, low), r_template at texts values part text start from (token ∷ now) now taken r (e, refl))
+      (start, h, low, omega (arith, low), read_template at texts values part text start from (token ∷ now) now taken r (e, refl))
   template_end_holds frames at texts values part token start from now (k.Template text false false) h low (place, taken) r e =
-      ((start, h, low, (place, r_pieces_more texts values part text start from (token ∷ now) now taken r (e, refl))), omega arith)
+      ((start, h, low, (place, read_pieces_more texts values part text start from (token ∷ now) now taken r (e, refl))), omega arith)
   template_end_holds frames at texts values part token start from now _ h low taken r e = tt
 
   pub object_next_holds : (frames : Frames) (member : Sorted t.member) (token : Token) (from now : Tokens) (one : Word) → Opened whole frames from → ReadMember InObject member from (token ∷ now) → Is one token.kind →
       Holds whole (object_next frames member one) now
   object_next_holds (f.Member (m.Object at members) ∷ frames) member token from now w.Comma (start, opened, fits, (b, before, taken)) r e =
-      (now, (start, opened, fits, (b, before, r_members_comma (and_then members member) b (token ∷ now) now (r_members_last members member b from (token ∷ now) taken r) (e, refl))), tt, refl)
+      (now, (start, opened, fits, (b, before, read_members_comma (and_then members member) b (token ∷ now) now (read_members_last members member b from (token ∷ now) taken r) (e, refl))), tt, refl)
   object_next_holds (f.Member (m.Object at members) ∷ frames) member token from now w.RightBrace (start, opened, fits, (b, before, taken)) r e =
-      (start, opened, fits, omega (arith, fits), r_joined_object at (and_then members member) start b (token ∷ now) now before (r_members_last members member b from (token ∷ now) taken r) (e, refl))
+      (start, opened, fits, omega (arith, fits), read_joined_object at (and_then members member) start b (token ∷ now) now before (read_members_last members member b from (token ∷ now) taken r) (e, refl))
   object_next_holds _ member token from now _ h r e = tt
 
   test_end_holds : (frames : Frames) (opening : Opening) (part : Part) (from now : Tokens) → Takes frames false → Opened whole frames from → TestTaken opening part.of from now → Holds whole (test_end frames opening part) now
@@ -214,34 +214,34 @@ module _ (whole : Tokens) where
       Opened whole frames start → Taken (f.Statement (s.Initialiser constant names use_of own)) start from → 2 ≤ part.level → Read part from (token ∷ now) → Is one token.kind →
       Holds whole (initialiser_end frames constant (and_then names (p.declarator own (Some part.of))) use_of token one) now
   initialiser_end_holds frames constant names use_of own part token start from now w.Comma fits h (c, (b, (a, before, taken), named), sign) least r e =
-      (start, h, fits, (a, before, r_initialised_comma constant own names part a b c from (token ∷ now) now taken named sign r least (e, refl)))
+      (start, h, fits, (a, before, read_initialised_comma constant own names part a b c from (token ∷ now) now taken named sign r least (e, refl)))
   initialiser_end_holds frames constant names use_of own part token start from now _ fits h (c, (b, (a, before, taken), named), sign) least r e =
-      names_end_holds frames constant (and_then names (p.declarator own (Some part.of))) use_of token start a now fits h before (r_initialised_last constant own names part a b c from (token ∷ now) taken named sign r least)
+      names_end_holds frames constant (and_then names (p.declarator own (Some part.of))) use_of token start a now fits h before (read_initialised_last constant own names part a b c from (token ∷ now) taken named sign r least)
 
   ended_holds : (frame : Frame) (frames : Frames) (part : Part) (token : Token) (start from now : Tokens) → Opened whole frames start → Fits frame frames → Taken frame start from → lowest_of frame ≤ part.level → Read part from (token ∷ now) →
       Holds whole (ended frame frames part token) now
   ended_holds (f.Expression (x.Paren at)) frames part token start from now h fits taken low r =
-      paren_by (λ st. Holds whole st now) token (the_word token) _ (kind_is token.kind) (λ e. (start, h, fits, omega (arith, fits), r_paren at part start from (token ∷ now) now taken r (e, refl))) tt
+      paren_by (λ st. Holds whole st now) token (the_word token) _ (kind_is token.kind) (λ e. (start, h, fits, omega (arith, fits), read_paren at part start from (token ∷ now) now taken r (e, refl))) tt
   ended_holds (f.Expression (x.Yes test)) frames part token start from now h fits taken low r =
       colon_by (λ st. Holds whole st now) token (the_word token) _ (kind_is token.kind) (λ e. ((start, h, fits, (token ∷ now, (from, taken, (low, r)), (e, refl))), omega arith)) tt
   ended_holds (f.Expression (x.Arguments of list)) frames part token start from now h fits taken low r = arguments_end_holds frames of list part token start from now (the_word token) h fits taken low r (kind_is token.kind)
   ended_holds (f.Expression (x.Array at items)) frames part token start from now h fits taken low r = items_end_holds frames at items part token start from now (the_word token) h fits taken low r (kind_is token.kind)
   ended_holds (f.Expression (x.Index of)) frames part token start from now h fits (a, before, sign) low r =
-      bracket_by (λ st. Holds whole st now) token (the_word token) _ (kind_is token.kind) (λ e. (start, h, fits, fits, r_index of part start a from (token ∷ now) now before sign r (e, refl))) tt
+      bracket_by (λ st. Holds whole st now) token (the_word token) _ (kind_is token.kind) (λ e. (start, h, fits, fits, read_index of part start a from (token ∷ now) now before sign r (e, refl))) tt
   ended_holds (f.Expression (x.SuperIndex at)) frames part token start from now h fits (a, before, sign) low r =
-      bracket_by (λ st. Holds whole st now) token (the_word token) _ (kind_is token.kind) (λ e. (start, h, fits, fits, r_super_index at part start a from (token ∷ now) now before sign r (e, refl))) tt
+      bracket_by (λ st. Holds whole st now) token (the_word token) _ (kind_is token.kind) (λ e. (start, h, fits, fits, read_super_index at part start a from (token ∷ now) now before sign r (e, refl))) tt
   ended_holds (f.Expression (x.Template at texts values)) frames part token start from now h fits taken low r = template_end_holds frames at texts values part token start from now token.kind h fits taken r refl
   ended_holds (f.Member (m.Key at fixed kind)) frames part token start from now h fits (c, (place, (l, static, accessor)), sign) low r =
       bracket_by (λ st. Holds whole st now) token (the_word token) _ (kind_is token.kind)
-      (λ e. (start, h, fits, ((place, (l, static, (c, accessor, r_computed_key part c from (token ∷ now) now sign r low (e, refl)))), tt))) tt
+      (λ e. (start, h, fits, ((place, (l, static, (c, accessor, read_computed_key part c from (token ∷ now) now sign r low (e, refl)))), tt))) tt
   ended_holds (f.Member (m.Value first)) frames part token start from now h fits taken low r =
-      object_next_holds frames (p.value_member first.at first.key part) token start now (the_word token) h (r_value_member first part start from (token ∷ now) fits taken r low) (kind_is token.kind)
+      object_next_holds frames (p.value_member first.at first.key part) token start now (the_word token) h (read_value_member first part start from (token ∷ now) fits taken r low) (kind_is token.kind)
   ended_holds (f.Member (m.Parent at own stands)) frames part token start from now h fits (a, before, sign) low (tree, q, place, r) =
       brace_by (λ st. Holds whole st now) token (the_word token) _ (kind_is token.kind)
-      (λ e. (now, (start, h, fits, (now, (token ∷ now, (a, before, (from, sign, (tree, ap (λ u. u.of) q, subst (λ u. 17 ≤ u.level) (sym q) low, r))), (e, refl)), r_no_class_members true now)), tt, refl)) tt
+      (λ e. (now, (start, h, fits, (now, (token ∷ now, (a, before, (from, sign, (tree, ap (λ u. u.of) q, subst (λ u. 17 ≤ u.level) (sym q) low, r))), (e, refl)), read_no_class_members true now)), tt, refl)) tt
   ended_holds (f.Statement s.Value) frames part token start from now h fits taken low r =
       statement_end_holds false frames (p.value part.of) (may token) reading.may_miss token start now (the_word token) (kind_is token.kind) fits h (λ e q. sym (may_miss_is token) ∙ q)
-      (λ mark to c. r_value part mark start from (token ∷ now) to taken r c)
+      (λ mark to c. read_value part mark start from (token ∷ now) to taken r c)
   ended_holds (f.Statement (s.Initialiser constant names use_of own)) frames part token start from now h fits taken low r =
       initialiser_end_holds frames constant names use_of own part token start from now (the_word token) fits h taken low r (kind_is token.kind)
   ended_holds (f.Statement (s.Test opening)) frames part token start from now h fits taken low r =
@@ -249,30 +249,30 @@ module _ (whole : Tokens) where
   ended_holds (f.Statement (s.DoTest body)) frames part token start from now h fits taken low r =
       paren_by (λ st. Holds whole st now) token (the_word token) _ (kind_is token.kind) (λ e. (start, h, fits, (token ∷ now, (from, taken, read_of part from (token ∷ now) r), (e, refl)))) tt
   ended_holds (f.Statement s.ForValue) frames part token start from now h fits taken low r =
-      semicolon_by (λ st. Holds whole st now) token (the_word token) _ (kind_is token.kind) (λ e. (start, h, fits, (token ∷ now, (from, taken, r_head_value part from (token ∷ now) r), (e, refl)))) tt
+      semicolon_by (λ st. Holds whole st now) token (the_word token) _ (kind_is token.kind) (λ e. (start, h, fits, (token ∷ now, (from, taken, read_head_value part from (token ∷ now) r), (e, refl)))) tt
   ended_holds (f.Statement (s.ForTest head)) frames part token start from now h fits taken low r =
-      semicolon_by (λ st. Holds whole st now) token (the_word token) _ (kind_is token.kind) (λ e. (start, h, fits, (token ∷ now, (from, taken, r_there part from (token ∷ now) r), (e, refl)))) tt
+      semicolon_by (λ st. Holds whole st now) token (the_word token) _ (kind_is token.kind) (λ e. (start, h, fits, (token ∷ now, (from, taken, read_there part from (token ∷ now) r), (e, refl)))) tt
   ended_holds (f.Statement (s.ForStep head test)) frames part token start from now h fits taken low r =
-      paren_by (λ st. Holds whole st now) token (the_word token) _ (kind_is token.kind) (λ e. ((start, h, fits, (token ∷ now, (from, taken, r_there part from (token ∷ now) r), (e, refl))), refl)) tt
+      paren_by (λ st. Holds whole st now) token (the_word token) _ (kind_is token.kind) (λ e. ((start, h, fits, (token ∷ now, (from, taken, read_there part from (token ∷ now) r), (e, refl))), refl)) tt
   ended_holds (f.Statement (s.Return at)) frames part token start from now h fits taken low r =
       statement_end_holds false frames (p.return at (Some part.of)) (may token) reading.may_miss token start now (the_word token) (kind_is token.kind) fits h (λ e q. sym (may_miss_is token) ∙ q)
-      (λ mark to c. r_return at part mark start from (token ∷ now) to taken r c)
+      (λ mark to c. read_return at part mark start from (token ∷ now) to taken r c)
   ended_holds (f.Statement s.Throw) frames part token start from now h fits taken low r =
       statement_end_holds false frames (p.throw part.of) (may token) reading.may_miss token start now (the_word token) (kind_is token.kind) fits h (λ e q. sym (may_miss_is token) ∙ q)
-      (λ mark to c. r_throw part mark start from (token ∷ now) to taken r c)
+      (λ mark to c. read_throw part mark start from (token ∷ now) to taken r c)
   ended_holds (f.Statement s.CaseTest) frames part token start from now h fits taken low r =
       colon_by (λ st. Holds whole st now) token (the_word token) _ (kind_is token.kind)
-      (λ e. ((start, h, tt, (now, (token ∷ now, (from, taken, read_of part from (token ∷ now) r), (e, refl)), r_no_statements now)), tt)) tt
+      (λ e. ((start, h, tt, (now, (token ∷ now, (from, taken, read_of part from (token ∷ now) r), (e, refl)), read_no_statements now)), tt)) tt
   ended_holds (f.Item (n.Default at)) frames part token start from now h fits taken low r =
       item_end_holds frames (p.default_value at part.of) (may token) reading.may_miss token start now (the_word token) (kind_is token.kind) h (λ q. sym (may_miss_is token) ∙ q)
-      (λ mark to c. r_default_value at part mark start from (token ∷ now) to taken r low c)
+      (λ mark to c. read_default_value at part mark start from (token ∷ now) to taken r low c)
   ended_holds _ frames part token start from now h fits taken low r = tt
 
   new_end_holds : (frames : Frames) (at : ℕ) (part : Part) (token : Token) (start from now : Tokens) (bare : State) (one : Word) → Opened whole frames start → lowest frames ≤ 17 → Taken (f.Expression (x.New at)) start from →
       Read part from (token ∷ now) → is_new_callee part ≡ true → Is one token.kind → Holds whole bare now →
       Holds whole (new_end (operand_due (f.Expression (x.Arguments (callee.New at part) none) ∷ frames)) bare part one) now
   new_end_holds frames at part token start from now bare w.LeftParen h low taken r q e other =
-      split (λ st. Holds whole st now) (is_base part) _ _ (λ c. ((start, h, low, (now, (token ∷ now, (from, taken, ((q, c), r)), (e, refl)), r_none now)), omega arith)) (λ c. tt)
+      split (λ st. Holds whole st now) (is_base part) _ _ (λ c. ((start, h, low, (now, (token ∷ now, (from, taken, ((q, c), r)), (e, refl)), read_none now)), omega arith)) (λ c. tt)
   new_end_holds frames at part token start from now bare _ h low taken r q e other = other
 
   closed_holds : (frame : Frame) (again : Part → State) (frames : Frames) (part : Part) (token : Token) (start from now : Tokens) →
@@ -280,21 +280,21 @@ module _ (whole : Tokens) where
       Opened whole frames start → Fits frame frames → Taken frame start from → lowest_of frame ≤ part.level → Read part from (token ∷ now) → Holds whole (closed frame again frames part token) now
   closed_holds (f.Expression (x.Infix operator left)) again frames part token start from now ih h fits (a, before, sign) low r =
       let most : infix_level operator ≤ 17 = infix_most operator in
-      ih (p.operation operator left part) (omega (arith, fits)) fits (r_infix operator left part start a from (token ∷ now) before sign r low)
+      ih (p.operation operator left part) (omega (arith, fits)) fits (read_infix operator left part start a from (token ∷ now) before sign r low)
   closed_holds (f.Expression (x.Prefix operator at)) again frames part token start from now ih h fits taken low r =
-      ih (p.prefix_form operator at part) (omega (arith, fits)) fits (r_prefix operator at part start from (token ∷ now) taken r low)
+      ih (p.prefix_form operator at part) (omega (arith, fits)) fits (read_prefix operator at part start from (token ∷ now) taken r low)
   closed_holds (f.Expression (x.Update at up)) again frames part token start from now ih h fits taken low r =
-      split (λ st. Holds whole st now) part.is_target _ _ (λ q. ih (p.update_before at up part) (omega (arith, fits)) fits (r_update_before at up part start from (token ∷ now) taken r q)) (λ q. tt)
+      split (λ st. Holds whole st now) part.is_target _ _ (λ q. ih (p.update_before at up part) (omega (arith, fits)) fits (read_update_before at up part start from (token ∷ now) taken r q)) (λ q. tt)
   closed_holds (f.Expression (x.New at)) again frames part token start from now ih h fits taken low r =
       split (λ st. Holds whole st now) (is_new_callee part) _ _
       (λ q. new_end_holds frames at part token start from now (again (p.bare_new at part)) (the_word token) h fits taken r q (kind_is token.kind)
-      (ih (p.bare_new at part) fits fits (r_bare_new at part start from (token ∷ now) taken r q))) (λ q. tt)
+      (ih (p.bare_new at part) fits fits (read_bare_new at part start from (token ∷ now) taken r q))) (λ q. tt)
   closed_holds (f.Expression (x.No test first)) again frames part token start from now ih h fits (c, (b, (a, before, sign), one), colon) low r =
-      ih (p.conditional test first part) (omega (arith, fits)) fits (r_conditional test first part start a b c from (token ∷ now) before sign one colon r low)
+      ih (p.conditional test first part) (omega (arith, fits)) fits (read_conditional test first part start a b c from (token ∷ now) before sign one colon r low)
   closed_holds (f.Expression (x.Assign left operator)) again frames part token start from now ih h fits (a, before, sign) low r =
-      ih (p.assign left operator part) (omega (arith, fits)) fits (r_assign left operator part start a from (token ∷ now) before sign r low)
+      ih (p.assign left operator part) (omega (arith, fits)) fits (read_assign left operator part start a from (token ∷ now) before sign r low)
   closed_holds (f.Expression (x.Arrow at list)) again frames part token start from now ih h fits taken low r =
-      ih (p.arrow at list part) (omega (arith, fits)) fits (r_arrow at list part start from (token ∷ now) taken r low)
+      ih (p.arrow at list part) (omega (arith, fits)) fits (read_arrow at list part start from (token ∷ now) taken r low)
   closed_holds frame again frames part token start from now ih h fits taken low r = ended_holds frame frames part token start from now h fits taken low r
 
   pub settle_holds : (frames : Frames) (part : Part) (token : Token) (from now : Tokens) → Opened whole frames from → lowest frames ≤ 17 → lowest frames ≤ part.level → Read part from (token ∷ now) → Holds whole (settle frames part token) now
