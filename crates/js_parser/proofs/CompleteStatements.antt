@@ -134,7 +134,7 @@ reads_while test body reads_test reads_body from to d frames allowed behind =
     ∙ reads_body d.2.2.2.0 to c.1 (f.Statement (s.While (cut test)) ∷ frames) (λ h. absurd (true≢false (sym h ∙ c.0))) behind
     ∙ ap (λ line. run (put frames line) to) (while_is test body)
 
-none_there : (x : Bool) → not x ≡ true → x ≡ false
+pub none_there : (x : Bool) → not x ≡ true → x ≡ false
 none_there true h = absurd (true≢false (sym h))
 none_there false h = refl
 

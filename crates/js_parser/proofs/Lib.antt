@@ -33,3 +33,6 @@ pub mod SoundStatements
 pub mod SoundItems
 pub mod Sound
 pub mod Over
+pub mod CompletePairs
+pub mod CompleteItems
+pub mod Complete
