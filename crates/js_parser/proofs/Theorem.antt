@@ -1,5 +1,5 @@
--- What the machine answers is what the parser has to answer: from what it reads of a spelled tree (Built), from
--- what it has read being spelled (Spelled), and from the end of a text being the last thing that it takes (Over).
+-- What the machine answers is what the parser has to answer: it reads each spelled tree, what it has read is
+-- spelled, and the end of a text is the last thing that it takes.
 use Rattle.std.proofs.Common.{◌≡◌, ℕ, zero, suc, ◌+◌, ◌<◌, ◌≤◌, Bool, true, false, [], ◌∷◌, ◌++◌, length, take, drop, map, if◌then◌else◌, Option, Some, None, Ok, Err, Result, refl, ap, sym, ◌∙◌, subst, arith}
 use Rattle.std.specs.Prelude.{nat_le}
 use Rattle.std.proofs.lemmas.Bool.{leb-true, leb-false}
@@ -20,22 +20,10 @@ use Rattle.js_parser.specs.declared.fault.ParseFault.{ParseFault}
 use Rattle.js_parser.specs.declared.fault.ParseFault.TheVariants as fault
 use Rattle.js_parser.specs.Parsed.{shape, NoneGoesOn, Answers, EndsLast}
 use Rattle.js_parser.proofs.Moved.{Alike}
+use Rattle.js_parser.proofs.Over.{IsOver, over}
+use Rattle.js_parser.proofs.Complete.{built}
+use Rattle.js_parser.proofs.Sound.{spelled}
 use Rattle.js_parser.proofs.MovedForms.{module_moves}
-
-abbrev pub Built : Type 0
-Built = (items : Tree (t.list t.item)) (tokens : Tokens) → spells items tokens → run start tokens ≡ state (c.Done (cut items)) []
-
-abbrev pub Spelled : Type 0
-Spelled = (tokens : Tokens) (kept : Sorted (t.list t.item)) (frames : Frames) → run start tokens ≡ state (c.Done kept) frames → (items : Tree (t.list t.item)) × (cut items ≡ kept) × spells items tokens
-
--- the whole was read, or the machine failed
-abbrev pub IsOver : State → Type 0
-IsOver (state c.Fail frames) = Unit {0}
-IsOver (state (c.Done items) frames) = Unit {0}
-IsOver _ = ⊥
-
-abbrev pub Over : Type 0
-Over = (st : State) (token : Token) → token.kind ≡ k.End → IsOver (step st token)
 
 abbrev Failed : State → Type 0
 Failed (state c.Fail frames) = Unit {0}
@@ -77,18 +65,18 @@ failed_here : (place : ℕ) (st : State) (frames : Frames) (token : Token) (toke
 failed_here place st frames token tokens e = (0, omega arith, omega arith, subst Failed (sym e) tt)
 
 last_found : (place : ℕ) (st next : State) (token : Token) → step st token ≡ next → IsOver next → Found place st (token ∷ []) (after place next [])
-last_found place st (state c.Fail frames) token e over = failed_here place st frames token [] e
-last_found place st (state (c.Done items) frames) token e over = later place st _ token [] _ e (at_end (suc place) items frames)
-last_found place st (state _ frames) token e over = absurd over
+last_found place st (state c.Fail frames) token e ended = failed_here place st frames token [] e
+last_found place st (state (c.Done items) frames) token e ended = later place st _ token [] _ e (at_end (suc place) items frames)
+last_found place st (state _ frames) token e ended = absurd ended
 
 next_found : (place : ℕ) (st next : State) (token : Token) (tokens : Tokens) → step st token ≡ next → Found (suc place) next tokens (answer_from (suc place) next tokens) → Found place st (token ∷ tokens) (after place next tokens)
 next_found place st (state c.Fail frames) token tokens e h = failed_here place st frames token tokens e
 next_found place st (state _ frames) token tokens e h = later place st _ token tokens _ e h
 
-found : Over → (place : ℕ) (st : State) (tokens : Tokens) → EndsLast tokens → Found place st tokens (answer_from place st tokens)
-found over place st [] ends = absurd ends
-found over place st (token ∷ []) ends = last_found place st (step st token) token refl (over st token ends)
-found over place st (token ∷ (other ∷ tokens)) ends = next_found place st (step st token) token (other ∷ tokens) refl (found over (suc place) (step st token) (other ∷ tokens) ends)
+found : (place : ℕ) (st : State) (tokens : Tokens) → EndsLast tokens → Found place st tokens (answer_from place st tokens)
+found place st [] ends = absurd ends
+found place st (token ∷ []) ends = last_found place st (step st token) token refl (over st token ends)
+found place st (token ∷ (other ∷ tokens)) ends = next_found place st (step st token) token (other ∷ tokens) refl (found (suc place) (step st token) (other ∷ tokens) ends)
 
 -- A tree that is kept, and one that isn't.
 
@@ -128,13 +116,13 @@ alike_before (suc n) (token ∷ tokens) (other ∷ others) e h =
     let rest : map shape (take n others) ≡ map shape (take n tokens) = cc e in
     (first, alike_before n tokens others rest (omega (arith, h)))
 
-none_goes_on : Built → (tokens : Tokens) (n : ℕ) → n < length tokens → Failed (run start (take (suc n) tokens)) → NoneGoesOn tokens n
-none_goes_on built tokens n h failed = (
+none_goes_on : (tokens : Tokens) (n : ℕ) → n < length tokens → Failed (run start (take (suc n) tokens)) → NoneGoesOn tokens n
+none_goes_on tokens n h failed = (
   h,
-  λ others tree same spelled.
+  λ others tree same spelling.
       let front = take (suc n) tokens in
       let behind = drop (suc n) others in
-      let other = module_moves tree others (front ++ behind) (alike_before (suc n) tokens others same (omega (arith, h))) spelled in
+      let other = module_moves tree others (front ++ behind) (alike_before (suc n) tokens others same (omega (arith, h))) spelling in
       let done : run start (front ++ behind) ≡ state (c.Done (cut other.0)) [] = built other.0 (front ++ behind) other.1 in
       let gone : Failed (run start (front ++ behind)) = subst Failed (sym (run_joined start front behind)) (still_failed (run start front) behind failed) in
       subst Failed done gone,
@@ -147,18 +135,19 @@ result_of (Parsed whole) = Ok whole
 result_of TooDeep = Err fault.TooDeep
 result_of (Syntax n) = Err (fault.Syntax n)
 
-from_found : Built → Spelled → (tokens : Tokens) (a : Answer) → Found 0 start tokens a → Answers tokens (result_of a)
-from_found built spelled tokens (Parsed whole) h =
+from_found : (tokens : Tokens) (a : Answer) → Found 0 start tokens a → Answers tokens (result_of a)
+from_found tokens (Parsed whole) h =
     let read = spelled tokens h.0 h.1 h.2 in
     let kept = kept_as read.0 whole (ap (λ (k : Sorted (t.list t.item)). k.tree) read.1 ∙ h.3) in
     let only : (other : Tree (t.list t.item)) → spells other tokens → other ≡ whole = λ other spelling. (kept_as other whole (ap (λ (k : Sorted (t.list t.item)). k.tree) (kept_same (sym (built other tokens spelling) ∙ h.2)) ∙ h.3)).1 in
     (subst (λ tree. spells tree tokens) kept.1 read.2, subst (λ tree. nesting tree ≤ 64) kept.1 kept.0, only)
-from_found built spelled tokens TooDeep h =
+from_found tokens TooDeep h =
     let read = spelled tokens h.0 h.1 h.2 in
     (read.0, read.2, λ other spelling. not_kept other (ap (λ (k : Sorted (t.list t.item)). k.tree) (kept_same (sym (built other tokens spelling) ∙ h.2)) ∙ h.3))
-from_found built spelled tokens (Syntax n) h =
+from_found tokens (Syntax n) h =
     let e : n ≡ h.0 = omega (arith, h.1) in
-    subst (NoneGoesOn tokens) (sym e) (none_goes_on built tokens h.0 h.2 h.3)
+    subst (NoneGoesOn tokens) (sym e) (none_goes_on tokens h.0 h.2 h.3)
 
-pub answers : Built → Spelled → Over → (tokens : Tokens) → EndsLast tokens → Answers tokens (result_of (answer tokens))
-answers built spelled over tokens ends = from_found built spelled tokens (answer tokens) (found over 0 start tokens ends)
+-- the parser's promise, of what the machine answers
+pub answers : (tokens : Tokens) → EndsLast tokens → Answers tokens (result_of (answer tokens))
+answers tokens ends = from_found tokens (answer tokens) (found 0 start tokens ends)
