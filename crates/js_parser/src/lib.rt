@@ -2,6 +2,9 @@
 #![tactic(auto)]
 
 mod fault;
+mod goings;
+mod operands;
 mod tables;
+mod texts;
 
 pub use fault::ParseFault;
