@@ -1,3 +1,4 @@
 pub mod Summary
 pub mod Shows
 pub mod Parsed
+pub mod Placing

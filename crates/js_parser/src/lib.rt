@@ -1,9 +1,12 @@
 //! The parser: the one tree that the tokens of a text spell.
 #![tactic(auto)]
 
+mod ends_of_functions;
+mod ends_of_lists;
 mod fault;
 mod goings;
 mod operands;
+mod puts;
 mod tables;
 mod texts;
 
