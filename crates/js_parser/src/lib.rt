@@ -3,6 +3,7 @@
 
 mod ends_of_functions;
 mod ends_of_lists;
+mod expression_ends;
 mod fault;
 mod goings;
 mod operands;
