@@ -21,4 +21,3 @@ returns-in-Some c =
 pub returns-in-None : goal.returns-in-None
 returns-in-None c =
     sym (no_place keywords keywords (places_from 0 keywords) c.args.units.now keywords-rowed (λ row h. let there = (c.in-None.ensures.row row).1 (texts_held keywords keywords-texts c.self.inside.keyword_table c.self.invariant.0 row ∙ h) in cc))
-

@@ -19,4 +19,3 @@ returns-in-Some c =
 pub returns-in-None : goal.returns-in-None
 returns-in-None c =
     sym (no_place signs ascending_signs sign_rows c.args.units.now signs-rowed (λ row h. let there = (c.in-None.ensures.row row).1 (texts_held ascending_signs signs-texts c.self.inside.sign_table c.self.invariant.1 row ∙ h) in cc))
-

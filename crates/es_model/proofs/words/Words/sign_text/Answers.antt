@@ -7,4 +7,3 @@ key-requires c = (lit< tt, sign_row-within c.args.place c.from-row.result c.requ
 
 pub returns : goal.returns
 returns c = sign_at c.args.place c.from-row.result c.self.inside.sign_table c.key.result.now c.requires (c.from-row.ensures ∙ ap (λ k. get_or sign_rows k 0) c.from.ensures) c.self.invariant.1 c.key.ensures
-
