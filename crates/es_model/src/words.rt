@@ -1,7 +1,7 @@
 //! The keywords and the signs by their texts (ECMA-262, 12.7.2 and 12.8).
 
 ghost use Rattle.std.specs.Prelude.{◌≡◌, ◌<◌, Some, length, slice_get};
-ghost use Rattle.es_model.specs.Tokens.{keywords, signs, keyword_of, place_from};
+ghost use Rattle.es_model.specs.Tokens.{ascending_signs, keywords, signs, keyword_of, place_from};
 
 use js_value::Case;
 use std::marker::Model;
@@ -102,8 +102,8 @@ impl Words {
     /// The tables.
     pub fn new() -> Words {
         Words {
-            keyword_table: Case::new(KEYWORDS),
-            sign_table: Case::new(SIGNS),
+            keyword_table: keyword_table(),
+            sign_table: sign_table(),
         }
     }
 
@@ -143,4 +143,16 @@ impl Words {
         let row = usize::from(SIGN_ROWS[usize::from(place)]);
         self.sign_table.key(row)
     }
+}
+
+fn keyword_table() -> Case<46>
+    ensures { result ≡ keywords }
+{
+    Case::new(KEYWORDS)
+}
+
+fn sign_table() -> Case<52>
+    ensures { result ≡ ascending_signs }
+{
+    Case::new(SIGNS)
 }
