@@ -3,7 +3,7 @@
 use crate::{
     Case, Class, Default, Expression, ExpressionForm, Function, FunctionBody, FunctionKind, Item,
     Key, Member, MemberKind, Module, Semi, Statement, StatementForm, Token, TokenKind, Tokens,
-    TreeList, Words, function_count, nesting,
+    TreeList, Words, function_count, keyword_text, nesting, sign_text,
 };
 use std::alloc::{AllocError, Global};
 use std::test::Fail;

@@ -126,23 +126,23 @@ impl Words {
             None => None,
         }
     }
+}
 
-    /// The keyword at a place.
-    pub fn keyword_text(&self, place: u8) -> &'static str
-        requires { place < length keywords }
-        ensures { slice_get keywords place ≡ Some result.now }
-    {
-        self.keyword_table.key(usize::from(place))
-    }
+/// The keyword at a place.
+pub fn keyword_text(place: u8) -> &'static str
+    requires { place < length keywords }
+    ensures { slice_get keywords place ≡ Some result.now }
+{
+    keyword_table().key(usize::from(place))
+}
 
-    /// The sign at a place.
-    pub fn sign_text(&self, place: u8) -> &'static str
-        requires { place < length signs }
-        ensures { slice_get signs place ≡ Some result.now }
-    {
-        let row = usize::from(SIGN_ROWS[usize::from(place)]);
-        self.sign_table.key(row)
-    }
+/// The sign at a place.
+pub fn sign_text(place: u8) -> &'static str
+    requires { place < length signs }
+    ensures { slice_get signs place ≡ Some result.now }
+{
+    let row = usize::from(SIGN_ROWS[usize::from(place)]);
+    sign_table().key(row)
 }
 
 fn keyword_table() -> Case<46>
