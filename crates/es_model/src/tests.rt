@@ -43,11 +43,7 @@ fn signs_by_text(rt: HostRuntime) {
 
 #[test]
 fn texts_by_place(rt: HostRuntime) {
-    let words = Words::new();
-    assert_eq!(rt;
-        (words.keyword_text(18), words.sign_text(35)),
-        ("function", "??")
-    );
+    assert_eq!(rt; (keyword_text(18), sign_text(35)), ("function", "??"));
 }
 
 #[test]
