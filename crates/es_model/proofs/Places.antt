@@ -1,13 +1,13 @@
 -- A list of texts and a table of the same texts in ascending order: the place of a text in the list, by its
 -- row in the table.
-use Rattle.std.proofs.Common.{◌≡◌, ℕ, zero, suc, ◌+◌, ◌<◌, Bool, true, false, ◌==◌, List, [], ◌∷◌, length, map, Option, Some, None, slice_get, codes, get_or, refl, zero-add, sym, ◌∙◌, ap, arith}
+use Rattle.std.proofs.Common.{◌≡◌, ℕ, zero, suc, ◌+◌, ◌<◌, Bool, true, false, ◌==◌, List, [], ◌∷◌, length, map, Option, Some, None, slice_get, get_or, refl, zero-add, sym, ◌∙◌, ap, arith}
 use Rattle.std.specs.Cmp.{first_so, second_so}
 use Rattle.std.specs.Option.{option_map}
 use Rattle.std.proofs.lemmas.Bool.{eqb-true}
 use Rattle.std.proofs.lemmas.Option.{slice_get-map, slice_get-get_or, slice_get_within}
 use Rattle.js_value.specs.Case.{are_keys, texts}
 use Rattle.js_value.proofs.Tables.{keys_when_ascii, texts-ascii}
-use Rattle.es_model.specs.Tokens.{same_text, place_from, keywords, signs}
+use Rattle.es_model.specs.Tokens.{same_text, place_from, keywords, signs, ascending_signs}
 
 same_text-true : (a b : List ℕ) → same_text a b ≡ true → a ≡ b
 same_text-true [] [] h = refl
@@ -95,9 +95,6 @@ keywords-placed = refl
 
 pub keywords-rowed : map (slice_get keywords) (places_from 0 keywords) ≡ map (λ t. Some t) keywords
 keywords-rowed = refl
-
-abbrev pub ascending_signs : List (List ℕ)
-ascending_signs = codes "!" ∷ codes "!=" ∷ codes "!==" ∷ codes "%" ∷ codes "%=" ∷ codes "&" ∷ codes "&&" ∷ codes "&=" ∷ codes "(" ∷ codes ")" ∷ codes "*" ∷ codes "**" ∷ codes "**=" ∷ codes "*=" ∷ codes "+" ∷ codes "++" ∷ codes "+=" ∷ codes "," ∷ codes "-" ∷ codes "--" ∷ codes "-=" ∷ codes "." ∷ codes "/" ∷ codes "/=" ∷ codes ":" ∷ codes ";" ∷ codes "<" ∷ codes "<<" ∷ codes "<<=" ∷ codes "<=" ∷ codes "=" ∷ codes "==" ∷ codes "===" ∷ codes "=>" ∷ codes ">" ∷ codes ">=" ∷ codes ">>" ∷ codes ">>=" ∷ codes ">>>" ∷ codes ">>>=" ∷ codes "?" ∷ codes "??" ∷ codes "[" ∷ codes "]" ∷ codes "^" ∷ codes "^=" ∷ codes "{" ∷ codes "|" ∷ codes "|=" ∷ codes "||" ∷ codes "}" ∷ codes "~" ∷ []
 
 abbrev pub sign_places : List ℕ
 sign_places = 31 ∷ 14 ∷ 16 ∷ 21 ∷ 43 ∷ 28 ∷ 33 ∷ 48 ∷ 2 ∷ 3 ∷ 19 ∷ 22 ∷ 44 ∷ 41 ∷ 17 ∷ 23 ∷ 39 ∷ 7 ∷ 18 ∷ 24 ∷ 40 ∷ 8 ∷ 20 ∷ 42 ∷ 37 ∷ 6 ∷ 9 ∷ 25 ∷ 45 ∷ 11 ∷ 38 ∷ 13 ∷ 15 ∷ 51 ∷ 10 ∷ 12 ∷ 26 ∷ 46 ∷ 27 ∷ 47 ∷ 36 ∷ 35 ∷ 4 ∷ 5 ∷ 30 ∷ 50 ∷ 0 ∷ 29 ∷ 49 ∷ 34 ∷ 1 ∷ 32 ∷ []

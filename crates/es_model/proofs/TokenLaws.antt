@@ -2,7 +2,8 @@
 -- places of its tokens ascend strictly.
 use Rattle.std.proofs.Common.{◌≡◌, ℕ, zero, suc, ◌+◌, ◌-◌, ◌/◌, ◌%◌, ◌≤◌, nat_lt, cond, Bool, true, false, ◌&&◌, ◌||◌, ◌==◌, List, [], ◌∷◌, ◌++◌, length, take, drop, take_while, codes, Option, Some, None, Result, Ok, Err, refl, ap, ◌∙◌, take-append-drop, append-nil, subst, arith}
 use Rattle.std.specs.List.{flat_map, list_any}
-use Rattle.js_value.specs.Text.{parts, sequence_length, utf16, encoded}
+use Rattle.std.proofs.lemmas.List.{length-map}
+use Rattle.js_value.specs.Text.{parts, parts_after, scalar_value, sequence_length, utf16, encoded}
 use Rattle.es_model.specs.declared.faults.LexFault.{LexFault}
 use Rattle.es_model.specs.declared.faults.LexFault.TheVariants.{NotUtf8, BadCharacter, OpenComment, OpenTemplate, NumberForm}
 use Rattle.es_model.specs.declared.token.Token.{Token}
@@ -181,3 +182,51 @@ ascending_at bytes None = ascending_after 0 0 [] 0 (s.characters_of bytes) false
 pub places_ascend : (bytes : List ℕ) (tokens : List Token) → s.tokens_of bytes ≡ Ok tokens → AscendFrom 0 tokens
 unfolding s.tokens_of
 places_ascend bytes tokens e = subst (Ascending 0) e (ascending_at bytes (s.first_bad 0 (parts sequence_length bytes)))
+
+-- There are at most as many tokens as bytes, and the end, since each token but the end has a character.
+
+abbrev Few : ℕ → Result (List Token) LexFault → Type 0
+Few most (Ok tokens) = length tokens ≤ most
+Few most (Err fault) = Unit {0}
+
+more_few : (low high : ℕ) (r : Result (List Token) LexFault) → low ≤ high → Few low r → Few high r
+more_few low high (Ok tokens) le h = omega (arith, le, h)
+more_few low high (Err fault) le h = tt
+
+before_few : (most : ℕ) (token : Token) (r : Result (List Token) LexFault) → Few most r → Few (suc most) (s.before token r)
+before_few most token (Ok tokens) h = omega (arith, h)
+before_few most token (Err fault) h = tt
+
+ending_few : (at : ℕ) (line : Bool) (o : Option ℕ) → Few 1 (s.tokens_in line (record { at = at; element = elim o [ Some begun ↦ Wrong (OpenTemplate begun) | None ↦ Word k.End 0 ]; spelling = [] } ∷ []))
+ending_few at line (Some begun) = tt
+ending_few at line None = omega arith
+
+few_after : (passed : ℕ) (braces : List Brace) (at : ℕ) (text : List ℕ) (line : Bool) → Few (suc (length text)) (s.tokens_in line (parts_of passed braces at text))
+few_after passed braces at [] line = ending_few at line (s.innermost braces)
+few_after (suc passed) braces at (c ∷ cs) line = more_few (suc (length cs)) (suc (suc (length cs))) _ (omega arith) (few_after passed braces (at + width c) cs line)
+few_after zero braces at (c ∷ cs) line =
+    elim (element braces at c cs) as (λ e. Few (suc (suc (length cs))) (s.tokens_in line (elim e [
+      | Between breaks more ↦ record { at = at; element = Between breaks more; spelling = c ∷ take more cs } ∷ parts_of more braces (at + width c) cs
+      | Word kind more ↦ record { at = at; element = Word kind more; spelling = c ∷ take more cs } ∷ parts_of more (braces_after at kind braces) (at + width c) cs
+      | Wrong fault ↦ record { at = at; element = Wrong fault; spelling = c ∷ cs } ∷ []
+    ]))) [
+      | Between breaks more ↦ more_few (suc (length cs)) (suc (suc (length cs))) _ (omega arith) (few_after more braces (at + width c) cs (line || breaks))
+      | Word kind more ↦ before_few (suc (length cs)) _ (s.tokens_in false (parts_of more (braces_after at kind braces) (at + width c) cs)) (few_after more (braces_after at kind braces) (at + width c) cs false)
+      | Wrong fault ↦ tt
+    ]
+
+parts_few : (size : List ℕ → ℕ) (passed : ℕ) (list : List ℕ) → length (parts_after size passed list) ≤ length list
+parts_few size passed [] = omega arith
+parts_few size (suc passed) (first ∷ rest) = let h = parts_few size passed rest in omega (arith, h)
+parts_few size zero (first ∷ rest) = let h = parts_few size (size (first ∷ rest) - 1) rest in omega (arith, h)
+
+few_at : (bytes : List ℕ) (o : Option ℕ) → Few (suc (length bytes)) (elim o [ Some at ↦ Err (NotUtf8 at) | None ↦ s.tokens_in false (parts_of 0 [] 0 (s.characters_of bytes)) ])
+few_at bytes (Some at) = tt
+few_at bytes None =
+    let characters : length (s.characters_of bytes) ≤ length bytes = omega (arith, length-map (parts sequence_length bytes) scalar_value, parts_few sequence_length 0 bytes) in
+    more_few (suc (length (s.characters_of bytes))) (suc (length bytes)) _ (omega (arith, characters)) (few_after 0 [] 0 (s.characters_of bytes) false)
+
+-- a text has at most one token more than bytes
+pub tokens_few : (bytes : List ℕ) (tokens : List Token) → s.tokens_of bytes ≡ Ok tokens → length tokens ≤ suc (length bytes)
+unfolding s.tokens_of
+tokens_few bytes tokens e = subst (Few (suc (length bytes))) e (few_at bytes (s.first_bad 0 (parts sequence_length bytes)))

@@ -24,7 +24,7 @@ pub use tree::{
     Case, Class, Declarator, Expression, ExpressionForm, Function, FunctionBody, Head, Key, Member,
     Statement, StatementForm,
 };
-pub use words::{keyword, keyword_text, sign, sign_text};
+pub use words::{Words, keyword_text, sign_text};
 
 #[cfg(test)]
 mod tests;

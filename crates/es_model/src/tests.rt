@@ -3,7 +3,7 @@
 use crate::{
     Case, Class, Default, Expression, ExpressionForm, Function, FunctionBody, FunctionKind, Item,
     Key, Member, MemberKind, Module, Semi, Statement, StatementForm, Token, TokenKind, Tokens,
-    TreeList, function_count, keyword, keyword_text, nesting, sign, sign_text,
+    TreeList, Words, function_count, keyword_text, nesting, sign_text,
 };
 use std::alloc::{AllocError, Global};
 use std::test::Fail;
@@ -27,15 +27,17 @@ const SIGNS: [(&[u16], Option<u8>); 5] = [
 
 #[test]
 fn keywords_by_text(rt: HostRuntime) {
+    let words = Words::new();
     for (text, place) in KEYWORDS {
-        assert_eq!(rt; keyword(text), place);
+        assert_eq!(rt; words.keyword(text), place);
     }
 }
 
 #[test]
 fn signs_by_text(rt: HostRuntime) {
+    let words = Words::new();
     for (text, place) in SIGNS {
-        assert_eq!(rt; sign(text), place);
+        assert_eq!(rt; words.sign(text), place);
     }
 }
 

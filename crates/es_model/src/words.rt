@@ -1,9 +1,10 @@
 //! The keywords and the signs by their texts (ECMA-262, 12.7.2 and 12.8).
 
 ghost use Rattle.std.specs.Prelude.{◌≡◌, ◌<◌, Some, length, slice_get};
-ghost use Rattle.es_model.specs.Tokens.{keywords, signs, keyword_of, place_from};
+ghost use Rattle.es_model.specs.Tokens.{ascending_signs, keywords, signs, keyword_of, place_from};
 
 use js_value::Case;
+use std::marker::Model;
 
 // The list of keywords ascends, so that a keyword's row is its place.
 const KEYWORDS: [&'static str; 46] = [
@@ -77,26 +78,53 @@ const SIGN_ROWS: [u8; 52] = [
     45, 33,
 ];
 
-/// The place of a keyword in the list of keywords, from 0; None where the text is no keyword. It takes no
-/// memory.
-pub fn keyword(units: &[u16]) -> Option<u8>
-    ensures { result ≡ keyword_of units.now }
-{
-    let table: Case<46> = Case::new(KEYWORDS);
-    match table.find(units) {
-        Some(row) => Some(row as u8),
-        None => None,
-    }
+/// The keywords and the signs by their texts. The tables are made once, by `new`, and then only read; they
+/// take no memory but their own, which is 1,568 bytes.
+#[derive(Drop)]
+pub struct Words {
+    keyword_table: Case<46>,
+    sign_table: Case<52>,
 }
 
-/// The place of a sign in the list of signs, from 0; None where the text is no sign. It takes no memory.
-pub fn sign(units: &[u16]) -> Option<u8>
-    ensures { result ≡ place_from 0 signs units.now }
-{
-    let table: Case<52> = Case::new(SIGNS);
-    match table.find(units) {
-        Some(row) => Some(SIGN_PLACES[row]),
-        None => None,
+// There is one such value, since the tables hold the texts of the definitions.
+impl Model for Words {
+    ghost use Rattle.std.specs.Prelude.{◌≡◌};
+    ghost use Rattle.es_model.specs.Tokens.{keywords, ascending_signs};
+
+    ghost Value = { Unit {0} };
+
+    ghost view = { λ w. tt };
+
+    ghost invariant = { λ w. (w.keyword_table ≡ keywords) × (w.sign_table ≡ ascending_signs) };
+}
+
+impl Words {
+    /// The tables.
+    pub fn new() -> Words {
+        Words {
+            keyword_table: keyword_table(),
+            sign_table: sign_table(),
+        }
+    }
+
+    /// The place of a keyword in the list of keywords, from 0; None where the text is no keyword.
+    pub fn keyword(&self, units: &[u16]) -> Option<u8>
+        ensures { result ≡ keyword_of units.now }
+    {
+        match self.keyword_table.find(units) {
+            Some(row) => Some(row as u8),
+            None => None,
+        }
+    }
+
+    /// The place of a sign in the list of signs, from 0; None where the text is no sign.
+    pub fn sign(&self, units: &[u16]) -> Option<u8>
+        ensures { result ≡ place_from 0 signs units.now }
+    {
+        match self.sign_table.find(units) {
+            Some(row) => Some(SIGN_PLACES[row]),
+            None => None,
+        }
     }
 }
 
@@ -105,8 +133,7 @@ pub fn keyword_text(place: u8) -> &'static str
     requires { place < length keywords }
     ensures { slice_get keywords place ≡ Some result.now }
 {
-    let table: Case<46> = Case::new(KEYWORDS);
-    table.key(usize::from(place))
+    keyword_table().key(usize::from(place))
 }
 
 /// The sign at a place.
@@ -114,7 +141,18 @@ pub fn sign_text(place: u8) -> &'static str
     requires { place < length signs }
     ensures { slice_get signs place ≡ Some result.now }
 {
-    let table: Case<52> = Case::new(SIGNS);
     let row = usize::from(SIGN_ROWS[usize::from(place)]);
-    table.key(row)
+    sign_table().key(row)
+}
+
+fn keyword_table() -> Case<46>
+    ensures { result ≡ keywords }
+{
+    Case::new(KEYWORDS)
+}
+
+fn sign_table() -> Case<52>
+    ensures { result ≡ ascending_signs }
+{
+    Case::new(SIGNS)
 }

@@ -11,7 +11,7 @@ use crate::comments::{take_block, take_line};
 use crate::numbers::take_number;
 use crate::quotes::{take_piece, take_string};
 use crate::words::{take_name, take_sign};
-use es_model::{LexFault, TokenKind};
+use es_model::{LexFault, TokenKind, Words};
 use std::alloc::Global;
 
 /// What stands between tokens, with whether it has a line break, or a token.
@@ -24,6 +24,7 @@ pub enum Found {
 /// Takes what begins with a character, which stands at `at` and is taken already.
 pub fn take_element(
     alloc: Global,
+    words: &Words,
     braces: &Braces,
     at: u32,
     first: char,
@@ -50,12 +51,13 @@ pub fn take_element(
             None => Err(LexFault::OpenComment(at)),
         };
     }
-    take_word(alloc, braces, at, first, left)
+    take_word(alloc, words, braces, at, first, left)
 }
 
 /// Takes a token.
 fn take_word(
     alloc: Global,
+    words: &Words,
     braces: &Braces,
     at: u32,
     first: char,
@@ -65,7 +67,7 @@ fn take_word(
     ensures { Reads (found (word_element braces.now at first left.old.text) left.old) result left.new }
 {
     if is_name_start(first) {
-        return take_name(alloc, first, left);
+        return take_name(alloc, words, first, left);
     }
     if is_digit(first) {
         return take_number(at, first, left);
@@ -73,12 +75,13 @@ fn take_word(
     if first == '.' && left.is_at_digit() {
         return Err(LexFault::NumberForm(at));
     }
-    take_quoted(alloc, braces, at, first, left)
+    take_quoted(alloc, words, braces, at, first, left)
 }
 
 /// Takes a string, a piece of a template or a sign.
 fn take_quoted(
     alloc: Global,
+    words: &Words,
     braces: &Braces,
     at: u32,
     first: char,
@@ -93,14 +96,15 @@ fn take_quoted(
             Ok(Found::Token(TokenKind::String(text)))
         }
         '`' => take_template(alloc, true, at, left),
-        '}' => take_closing(alloc, braces, at, left),
-        _ => take_sign(at, first, left),
+        '}' => take_closing(alloc, words, braces, at, left),
+        _ => take_sign(words, at, first, left),
     }
 }
 
 /// Takes `}`, which may continue a template.
 fn take_closing(
     alloc: Global,
+    words: &Words,
     braces: &Braces,
     at: u32,
     left: &mut Characters,
@@ -110,7 +114,7 @@ fn take_closing(
 {
     match braces.continued() {
         Some(begun) => take_template(alloc, false, begun, left),
-        None => take_sign(at, '}', left),
+        None => take_sign(words, at, '}', left),
     }
 }
 

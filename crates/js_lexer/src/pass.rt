@@ -7,7 +7,7 @@ ghost use Rattle.js_lexer.specs.Reads.{Answers, Lists};
 use crate::braces::Braces;
 use crate::characters::{Characters, first_bad};
 use crate::elements::{Found, take_element};
-use es_model::{LexFault, Token, TokenKind, Tokens};
+use es_model::{LexFault, Token, TokenKind, Tokens, Words};
 use std::alloc::Global;
 
 /// The tokens of a text of at most 268,435,456 bytes in their order, `End` last, or the fault that is met
@@ -34,6 +34,7 @@ fn take_all(alloc: Global, text: Characters, tokens: &mut Tokens) -> Result<(), 
     requires { tokens.old ≡ [] }
     ensures { Lists (tokens_in false (parts_of 0 [] text.entry.at text.entry.text)) result tokens.new }
 {
+    let words = Words::new();
     let mut left = text;
     let mut braces = Braces::new(alloc);
     let mut line_before = false;
@@ -42,7 +43,7 @@ fn take_all(alloc: Global, text: Characters, tokens: &mut Tokens) -> Result<(), 
         let Some(first) = left.next() else {
             break;
         };
-        match take_element(alloc, &braces, at, first, &mut left)? {
+        match take_element(alloc, &words, &braces, at, first, &mut left)? {
             Found::Gap(line) => line_before = line_before || line,
             Found::Token(kind) => {
                 braces.follow(at, &kind)?;

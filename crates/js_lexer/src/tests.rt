@@ -236,6 +236,7 @@ fn strings_and_escapes(rt: HostRuntime) -> Result<(), Fail> {
         ("a 'b", "OpenString(2)"),
         ("'b\n'", "OpenString(0)"),
         ("'b\r'", "OpenString(0)"),
+        ("\"a", "OpenString(0)"),
         ("\"'", "OpenString(0)"),
     ];
     assert_eq!(rt; wrong(rt.alloc(), &rows)?, None);

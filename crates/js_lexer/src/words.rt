@@ -8,7 +8,7 @@ ghost use Rattle.js_lexer.specs.Reads.{Finds, Reads, found, sign, word_of};
 use crate::characters::Characters;
 use crate::classes::is_name_part;
 use crate::elements::Found;
-use es_model::{LexFault, TokenKind, keyword, sign};
+use es_model::{LexFault, TokenKind, Words};
 use js_value::Units;
 use std::alloc::{AllocError, Global};
 
@@ -16,7 +16,12 @@ use std::alloc::{AllocError, Global};
 const LONGEST: usize = 4;
 
 /// Takes a name or a keyword, after its first character.
-pub fn take_name(alloc: Global, first: char, left: &mut Characters) -> Result<Found, LexFault>
+pub fn take_name(
+    alloc: Global,
+    words: &Words,
+    first: char,
+    left: &mut Characters,
+) -> Result<Found, LexFault>
     ensures { Reads (found (name_element first left.old.text) left.old) result left.new }
 {
     let mut text = Units::new(alloc);
@@ -28,14 +33,14 @@ pub fn take_name(alloc: Global, first: char, left: &mut Characters) -> Result<Fo
         push_character(&mut text, c)?;
         left.next();
     }
-    Ok(Found::Token(word(text)))
+    Ok(Found::Token(word(words, text)))
 }
 
 /// The token of a word.
-fn word(text: Units) -> TokenKind
+fn word(words: &Words, text: Units) -> TokenKind
     ensures { result ≡ word_of text }
 {
-    match keyword(text.as_slice()) {
+    match words.keyword(text.as_slice()) {
         Some(place) => TokenKind::Keyword(place),
         None => TokenKind::Name(text),
     }
@@ -62,10 +67,15 @@ pub fn push_code_point(text: &mut Units, code_point: u32) -> Result<(), AllocErr
 }
 
 /// Takes a sign, after its first character, which stands at `at`.
-pub fn take_sign(at: u32, first: char, left: &mut Characters) -> Result<Found, LexFault>
+pub fn take_sign(
+    words: &Words,
+    at: u32,
+    first: char,
+    left: &mut Characters,
+) -> Result<Found, LexFault>
     ensures { Reads (found (sign_element at (first ∷ left.old.text)) left.old) result left.new }
 {
-    match longest_sign(first, left) {
+    match longest_sign(words, first, left) {
         Some(place) => Ok(Found::Token(TokenKind::Sign(place))),
         None => Err(LexFault::BadCharacter(at)),
     }
@@ -73,11 +83,11 @@ pub fn take_sign(at: u32, first: char, left: &mut Characters) -> Result<Found, L
 
 /// The place of the longest sign in the list of signs. Each front of a sign is a sign too, so that a longer
 /// one is looked for only behind a shorter one.
-fn longest_sign(first: char, left: &mut Characters) -> Option<u8>
+fn longest_sign(words: &Words, first: char, left: &mut Characters) -> Option<u8>
     ensures { Finds (sign first left.old) result left.new }
 {
     let mut units = [ascii(first)?; LONGEST];
-    let mut longest = sign(&units[..1])?;
+    let mut longest = words.sign(&units[..1])?;
     let mut length = 1;
     while length < LONGEST {
         let Some(next) = left.first() else {
@@ -87,7 +97,7 @@ fn longest_sign(first: char, left: &mut Characters) -> Option<u8>
             break;
         };
         units[length] = unit;
-        let Some(longer) = sign(&units[..length + 1]) else {
+        let Some(longer) = words.sign(&units[..length + 1]) else {
             break;
         };
         longest = longer;

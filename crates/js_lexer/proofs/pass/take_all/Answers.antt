@@ -1,11 +1,19 @@
-use Rattle.std.proofs.Common.{◌≡◌, ◌≤◌, ◌∙◌, ◌||◌, ◌++◌, ◌∷◌, [], length, false, Ok, sym, ap, arith}
-use Rattle.es_model.specs.Tokens.{element, braces_after, before}
+use Rattle.std.proofs.Common.{◌≡◌, ◌+◌, ◌≤◌, ◌∙◌, ◌||◌, ◌++◌, ◌∷◌, [], length, false, Ok, sym, ap, arith}
+use Rattle.es_model.specs.Tokens.{element, braces_after, before, width}
 use Rattle.js_lexer.specs.Reads.{found}
 use Rattle.js_lexer.proofs.Lefts.{shorter}
 use Rattle.js_lexer.proofs.Answering.{lists_err}
-use Rattle.js_lexer.proofs.Passing.{joined, joined-more, tokens_left, found-shorter, gap_read, token_read, fault_read}
+use Rattle.js_lexer.proofs.Passing.{place_after, joined, joined-nil, joined-more, tokens_left, found-shorter, gap_read, token_read, fault_read}
 use Rattle.js_lexer.proofs.pass.take_all.Goals as goal
 use Rattle.js_lexer.proofs.pass.take_all.Goals.{then-line_before, else-line_before}
+
+pub loop-first-init : goal.loop-first-init
+loop-first-init c = rw (c.requires, c.new-braces.ensures) (joined-nil (tokens_left false [] c.args.text))
+
+pub take_element-requires : goal.take_element-requires
+take_element-requires c =
+    place_after c.loop-first.left c.next.new.self c.in-Some.first c.in-Some.ensures.first c.next.ensures.left
+    ∙ ap (λ p. p + width c.in-Some.first) (sym c.place-at.ensures)
 
 pub returns-in_err-line : goal.returns-in_err-line
 returns-in_err-line c =
