@@ -3,48 +3,21 @@
 ghost use Rattle.std.specs.Prelude.{◌≡◌, ◌∷◌, IfOk, if◌then◌else◌};
 ghost use Rattle.parser_forms.specs.MemberSteps as m;
 ghost use Rattle.parser_forms.specs.Kept.{none};
-ghost use Rattle.parser_forms.specs.State.{fail, operand_due, read, the_word};
+ghost use Rattle.parser_forms.specs.State.{fail, operand_due, the_word};
 ghost use Rattle.parser_forms.specs.declared.frame.Callee.TheVariants as callee;
 ghost use Rattle.parser_forms.specs.declared.frame.ExpressionFrame.TheVariants as x;
 ghost use Rattle.parser_forms.specs.declared.frame.Frame.TheVariants as f;
-ghost use Rattle.parser_forms.specs.Parts as p;
-ghost use Rattle.es_model.specs.Readings as r;
 ghost use Rattle.js_parser.specs.Shows.{Shows};
 
 use crate::operands::{opened, operand};
 use crate::puts::open_form;
 use crate::texts::plain_name;
-use es_model::{Identifier, Token, TokenKind, TreeList};
+use es_model::{Identifier, Token, TreeList};
 use parser_forms::{
-    Callee, Control, ExpressionDue, ExpressionFrame, Frame, ListRole, Part, Stack, StatementFrame,
-    Word, dot, lose, no_expressions, no_statements, super_dot, word_of_kind,
+    Callee, Control, ExpressionDue, ExpressionFrame, Frame, ListRole, Stack, StatementFrame, Word,
+    dot, lose, no_expressions, no_statements, super_dot, word_of_kind,
 };
 use std::alloc::{AllocError, Global};
-
-fn property(alloc: Global, of: Part, kind: &TokenKind) -> Result<Control, AllocError>
-    ensures { (frames : _) → IfOk result (λ c. Shows (m.property (r.plain_name kind.now) (λ text. read (p.dot of text) frames)) c frames) }
-{
-    match plain_name(alloc, kind) {
-        Ok(Some(text)) => Ok(Control::Read(dot(alloc, of, text)?)),
-        Ok(None) => {
-            lose(of);
-            Ok(Control::Fail)
-        }
-        Err(error) => {
-            lose(of);
-            Err(error)
-        }
-    }
-}
-
-fn super_property(alloc: Global, at: u32, kind: &TokenKind) -> Result<Control, AllocError>
-    ensures { (frames : _) → IfOk result (λ c. Shows (m.property (r.plain_name kind.now) (λ text. read (p.super_dot at text) frames)) c frames) }
-{
-    match plain_name(alloc, kind)? {
-        Some(text) => Ok(Control::Read(super_dot(at, text))),
-        None => Ok(Control::Fail),
-    }
-}
 
 // Arguments of `super`, which is no callee of a `new`.
 fn super_arguments(alloc: Global, stack: &mut Stack<Frame>, at: u32) -> Result<Control, AllocError>
@@ -131,9 +104,22 @@ pub fn expression_step(
 {
     let word = word_of_kind(&token.kind);
     match due {
-        ExpressionDue::Property { of } => property(alloc, of, &token.kind),
+        ExpressionDue::Property { of } => match plain_name(alloc, &token.kind) {
+            Ok(Some(text)) => Ok(Control::Read(dot(alloc, of, text)?)),
+            Ok(None) => {
+                lose(of);
+                Ok(Control::Fail)
+            }
+            Err(error) => {
+                lose(of);
+                Err(error)
+            }
+        },
         ExpressionDue::Super { at } => super_word(alloc, stack, at, word),
-        ExpressionDue::SuperProperty { at } => super_property(alloc, at, &token.kind),
+        ExpressionDue::SuperProperty { at } => match plain_name(alloc, &token.kind)? {
+            Some(text) => Ok(Control::Read(super_dot(at, text))),
+            None => Ok(Control::Fail),
+        },
         ExpressionDue::Arrow { at, parameters } => {
             Ok(arrow_word(at, parameters, word, token.line_before))
         }
