@@ -33,9 +33,15 @@ def peak_bytes(words):
     return int(done.stderr.split()[-1]) * 1024
 
 
+def count_tokens(program, module):
+    """How many tokens the module has."""
+    return int(subprocess.run([program, "tokens", module, "1"], stdout=subprocess.PIPE, check=True).stdout)
+
+
 def measure(layer, runs, program, module):
+    """The layer's speed, and its peak memory by the tokens of the module."""
     size = os.path.getsize(module)
-    count = int(subprocess.run([program, layer, module, "1"], stdout=subprocess.PIPE, check=True).stdout)
+    count = count_tokens(program, module)
     one = seconds([program, layer, module, "1"])
     many = seconds([program, layer, module, str(runs + 1)])
     rate = size * runs / (many - one) / 1e6
@@ -61,6 +67,7 @@ def main():
     runs, program, folder = int(sys.argv[1]), sys.argv[2], sys.argv[3]
     module = os.path.join(folder, "module.mjs")
     measure("tokens", runs, program, module)
+    measure("module", runs, program, module)
     measure_node(module, os.path.join(folder, "empty.mjs"))
 
 

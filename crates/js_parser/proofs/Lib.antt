@@ -36,3 +36,4 @@ pub mod Over
 pub mod CompletePairs
 pub mod CompleteItems
 pub mod Complete
+pub mod Promised

@@ -18,7 +18,7 @@ use Rattle.parser_forms.specs.State.{Frames, State, state, fail}
 use Rattle.parser_forms.specs.Machine.{step, run, start, Answer, Parsed, TooDeep, Syntax, answer, answer_from, unless_failed}
 use Rattle.js_parser.specs.declared.fault.ParseFault.{ParseFault}
 use Rattle.js_parser.specs.declared.fault.ParseFault.TheVariants as fault
-use Rattle.js_parser.specs.Parsed.{shape, NoneGoesOn, Answers, EndsLast}
+use Rattle.js_parser.specs.Parsed.{shape, NoneGoesOn, Answers, EndsLast, result_of}
 use Rattle.js_parser.proofs.Moved.{Alike}
 use Rattle.js_parser.proofs.Over.{IsOver, over}
 use Rattle.js_parser.proofs.Complete.{built}
@@ -127,13 +127,6 @@ none_goes_on tokens n h failed = (
       let gone : Failed (run start (front ++ behind)) = subst Failed (sym (run_joined start front behind)) (still_failed (run start front) behind failed) in
       subst Failed done gone,
 )
-
--- Together.
-
-abbrev pub result_of : Answer → Result (Tree (t.list t.item)) ParseFault
-result_of (Parsed whole) = Ok whole
-result_of TooDeep = Err fault.TooDeep
-result_of (Syntax n) = Err (fault.Syntax n)
 
 from_found : (tokens : Tokens) (a : Answer) → Found 0 start tokens a → Answers tokens (result_of a)
 from_found tokens (Parsed whole) h =

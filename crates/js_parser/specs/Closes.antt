@@ -3,7 +3,7 @@ use Rattle.std.specs.Prelude.{◌≡◌}
 use Rattle.es_model.specs.declared.token.Token.{Token}
 use Rattle.parser_forms.specs.declared.parts.Part.{Part}
 use Rattle.parser_forms.specs.declared.frame.Frame.{Frame}
-use Rattle.parser_forms.specs.State.{Frames}
+use Rattle.parser_forms.specs.State.{Frames, State}
 use Rattle.parser_forms.specs.Settle.{closed, settle}
 use Rattle.js_parser.specs.declared.expression_ends.Closed.{Closed}
 use Rattle.js_parser.specs.declared.expression_ends.Closed.TheVariants as c

@@ -8,6 +8,7 @@ use Rattle.es_model.specs.Tree.{Tree}
 use Rattle.es_model.specs.Readings.{Tokens}
 use Rattle.es_model.specs.Nesting.{nesting}
 use Rattle.es_model.specs.Spelling.{spells}
+use Rattle.parser_forms.specs.Machine.{Answer, Parsed, TooDeep, Syntax}
 use Rattle.js_parser.specs.declared.fault.ParseFault.{ParseFault}
 use Rattle.js_parser.specs.declared.fault.ParseFault.TheVariants as fault
 
@@ -38,3 +39,9 @@ abbrev pub EndsLast : Tokens → Type 0
 EndsLast [] = ⊥
 EndsLast (token ∷ []) = token.kind ≡ k.End
 EndsLast (token ∷ (other ∷ tokens)) = EndsLast (other ∷ tokens)
+
+-- the machine's answer as a result
+abbrev pub result_of : Answer → Result (Tree (t.list t.item)) ParseFault
+result_of (Parsed whole) = Ok whole
+result_of TooDeep = Err fault.TooDeep
+result_of (Syntax n) = Err (fault.Syntax n)

@@ -157,6 +157,43 @@ pub fn case_start(stack: &mut Stack<Frame>, word: Word) -> Result<Control, Alloc
     case_starts(stack, word, has_default)
 }
 
+fn next_case_in(
+    alloc: Global,
+    stack: &mut Stack<Frame>,
+    role: ListRole,
+    body: Kept<Statements>,
+    word: Word,
+) -> Result<Control, AllocError>
+    ensures { IfOk result (λ c. Shows (e.next_case (f.Statement (s.List role body) ∷ stack.old) word) c stack.new) }
+{
+    match role {
+        ListRole::Case { test } => {
+            with_case(alloc, stack, test, body)?;
+            case_start(stack, word)
+        }
+        other => {
+            lose((other, body));
+            Ok(Control::Fail)
+        }
+    }
+}
+
+/// `case` and `default` behind the statements of a case.
+pub fn next_case(alloc: Global, stack: &mut Stack<Frame>, word: Word) -> Result<Control, AllocError>
+    ensures { IfOk result (λ c. Shows (e.next_case stack.old word) c stack.new) }
+{
+    match stack.pop() {
+        Some(Frame::Statement(StatementFrame::List { role, statements })) => {
+            next_case_in(alloc, stack, role, statements, word)
+        }
+        Some(other) => {
+            lose(other);
+            Ok(Control::Fail)
+        }
+        None => Ok(Control::Fail),
+    }
+}
+
 fn arrow_end(
     alloc: Global,
     at: u32,

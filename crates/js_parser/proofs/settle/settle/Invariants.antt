@@ -1,0 +1,10 @@
+use Rattle.std.proofs.Common.{◌≡◌, ℕ, length}
+use Rattle.parser_forms.specs.Settle.{settle}
+use Rattle.js_parser.proofs.settle.settle.Given as goal
+
+-- what is left to settle makes the same
+abbrev pub invariant-loop-frame : goal.invariant-loop-frame
+invariant-loop-frame l = settle l.fn.stack l.fn.part l.token ≡ settle l.stack l.part l.token
+
+abbrev pub decreases-loop-frame : goal.decreases-loop-frame
+decreases-loop-frame l = length l.stack
