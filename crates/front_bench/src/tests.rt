@@ -24,10 +24,7 @@ fn shown(alloc: Global, text: &[u8]) -> Result<String, AllocError> {
 }
 
 // The first row of a table at whose place the parser doesn't fail.
-fn missed(
-    alloc: Global,
-    rows: &[(&'static str, u32)],
-) -> Result<Option<&'static str>, AllocError> {
+fn missed(alloc: Global, rows: &[(&'static str, u32)]) -> Result<Option<&'static str>, AllocError> {
     for (text, place) in rows {
         let wanted = format!(in alloc; "Syntax({})", *place)?;
         if shown(alloc, text.as_bytes())?.as_str() != wanted.as_str() {
@@ -71,10 +68,19 @@ fn parentheses(rt: HostRuntime) -> Result<(), Fail> {
     let far_deeper = enclosed(rt.alloc(), 100_000)?;
     let mut open = Vec::new(rt.alloc());
     push_often(&mut open, b'(', 100_000)?;
-    assert_eq!(rt; shown(rt.alloc(), deepest.as_slice())?.as_str(), "nesting 64");
+    assert_eq!(rt;
+        shown(rt.alloc(), deepest.as_slice())?.as_str(),
+        "nesting 64"
+    );
     assert_eq!(rt; shown(rt.alloc(), deeper.as_slice())?.as_str(), "TooDeep");
-    assert_eq!(rt; shown(rt.alloc(), far_deeper.as_slice())?.as_str(), "TooDeep");
-    assert_eq!(rt; shown(rt.alloc(), open.as_slice())?.as_str(), "Syntax(100000)");
+    assert_eq!(rt;
+        shown(rt.alloc(), far_deeper.as_slice())?.as_str(),
+        "TooDeep"
+    );
+    assert_eq!(rt;
+        shown(rt.alloc(), open.as_slice())?.as_str(),
+        "Syntax(100000)"
+    );
     Ok(())
 }
 

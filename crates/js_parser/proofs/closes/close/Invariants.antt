@@ -4,7 +4,7 @@ use Rattle.parser_forms.specs.Begins as b
 use Rattle.js_parser.proofs.closes.close.Given as goal
 
 abbrev pub invariant-loop-frame : goal.invariant-loop-frame
-invariant-loop-frame l = b.close l.fn.stack l.fn.line l.token.now ≡ b.close l.stack l.line l.token.now
+invariant-loop-frame l = b.close l.fn.stack l.fn.line l.token ≡ b.close l.stack l.line l.token
 
 abbrev pub decreases-loop-frame : goal.decreases-loop-frame
 decreases-loop-frame l = length l.stack
