@@ -5,6 +5,6 @@ use Rattle.front_bench.proofs.parsed.Goals as goal
 
 pub module-requires : goal.module-requires
 module-requires c = record {
-  size = omega (arith, c.requires, tokens_few c.args.text.now c.in_ok-tokens.tokens.now c.in_ok-tokens.ensures);
-  ends = tokens_end c.args.text.now c.in_ok-tokens.tokens.now c.in_ok-tokens.ensures;
+  size = omega (arith, c.requires, tokens_few c.args.text.now c.in_ok-tokens.tokens c.in_ok-tokens.ensures);
+  ends = tokens_end c.args.text.now c.in_ok-tokens.tokens c.in_ok-tokens.ensures;
 }
