@@ -1,712 +1,289 @@
--- What the spelling of each form takes: at least one token, as many closing signs as opening ones, and
--- the places of its functions within those of its tokens, in their order. The clauses follow those of
--- `Spells`.
-use Rattle.std.proofs.Common.{◌≡◌, ℕ, suc, ◌+◌, ◌<◌, ◌≤◌, Bool, true, false, List, [], ◌∷◌, ◌++◌, length, Option, Some, None, refl, ap, sym, ◌∙◌, subst, append-nil, codes, inl, inr, arith}
-use Prim.Native.String.{String}
+-- What each form takes, as `SpellingParts` puts it: at least one token, as many closing signs as opening
+-- ones, and the places of its functions within those of its tokens, in their order.
+use Rattle.std.proofs.Common.{ℕ, ◌<◌, Bool, true, false, List, length, Option, refl, sym, append-nil, arith}
 use lib.IntN.{ℤ}
 use Rattle.es_model.specs.declared.kinds.Semi.{Semi}
-use Rattle.es_model.specs.declared.kinds.Semi.TheVariants as semi
 use Rattle.es_model.specs.declared.kinds.FunctionKind.{FunctionKind}
-use Rattle.es_model.specs.declared.kinds.FunctionKind.TheVariants as f
 use Rattle.es_model.specs.declared.kinds.MemberKind.{MemberKind}
-use Rattle.es_model.specs.declared.kinds.MemberKind.TheVariants as m
 use Rattle.es_model.specs.declared.kinds.BinaryOperator.{BinaryOperator}
-use Rattle.es_model.specs.declared.kinds.BinaryOperator.TheVariants as b
 use Rattle.es_model.specs.declared.kinds.UnaryOperator.{UnaryOperator}
-use Rattle.es_model.specs.declared.kinds.UnaryOperator.TheVariants as u
 use Rattle.es_model.specs.declared.names.Identifier.{Identifier}
 use Rattle.es_model.specs.declared.names.Pair.{Pair}
-use Rattle.es_model.specs.declared.token.Token.{Token}
-use Rattle.es_model.specs.declared.token.TokenKind.{TokenKind}
 use Rattle.es_model.specs.declared.token.TokenKind.TheVariants as k
 use Rattle.es_model.specs.Tree as t
 use Rattle.es_model.specs.Tree.{Tree, Text}
-use Rattle.es_model.specs.Functions.{FunctionForm, Written, Generated, functions, inner, generated, writes_constructor}
-use Rattle.es_model.specs.Levels.{operator_sign, assignment_sign, unary_sign, Holder, InObject, InClass}
-use Rattle.es_model.specs.Readings.{Tokens, Reading, First, nothing, ◌▸◌, ◌∣◌, One, word, plain_name, the, name, the_name, maybe_name, property, here, same_line, semicolon, may_miss, may_miss_bare, may_miss_after_do, may_miss_after_export}
+use Rattle.es_model.specs.Functions.{Written, functions, inner, writes_constructor}
+use Rattle.es_model.specs.Levels.{operator_sign, unary_sign}
+use Rattle.es_model.specs.Readings.{Tokens, may_miss, may_miss_bare, may_miss_after_do, may_miss_after_export}
 use Rattle.es_model.specs.Spelling as s
-use Rattle.es_model.specs.Spelling.{Spelled, Spells, Maybe, LeftOut, There, FunctionUse, AsExpression, AsStatement, AsDefault, AsMember, Semicolons, no_more, one_more}
-use Rattle.es_model.specs.SyntaxLaws.{AscendFrom, place_of_function, opens, closes, one_if, openings, closings}
-
--- the places of functions ascend strictly from `low` to below `high`
-abbrev pub Within : ℕ → ℕ → List FunctionForm → Type 0
-Within low high [] = low ≤ high
-Within low high (form ∷ forms) = (low ≤ place_of_function form) × Within (suc (place_of_function form)) high forms
-
--- What stands between two lists of tokens, the second the end of the first: at least so many tokens,
--- so many opening signs and so many closing ones, both more or less by one number, and the places of
--- these functions.
-pub record Read (least up down : ℕ) (forms : List FunctionForm) (from to : Tokens) : Type 0 where
-  pub fewer : least + length to ≤ length from
-  pub signs : openings from + closings to + down ≡ closings from + openings to + up
-  pub places : (low : ℕ) → AscendFrom low from → (high : ℕ) × AscendFrom high to × Within low high forms
-
-abbrev pub Reads : ℕ → ℕ → ℕ → List FunctionForm → Reading → Type 0
-Reads least up down forms reading = (from to : Tokens) → reading from to → Read least up down forms from to
-
--- the same, of a reading that begins with a token before all of its functions, at the place of one more
-abbrev pub Starts : ℕ → ℕ → ℕ → List FunctionForm → Reading → Type 0
-Starts least up down forms reading = (form : FunctionForm) → Reads least up down (form ∷ forms) (here (place_of_function form) reading)
+use Rattle.es_model.specs.Spelling.{Spells}
+use Rattle.es_model.proofs.SpellingParts.{along, seq, behind, loose, once, under, nothing_reads, one_reads, one_starts, the_name_reads, name_reads, number_weighs, string_weighs, plain, comma, opening_parenthesis, closing_parenthesis, in_parentheses, in_brackets, in_braces, then_in_parentheses, operator_weighs, unary_weighs, assigning_reads, step_reads, declaring_word_reads, written_reads, semicolon_reads, class_name_reads, catch_name_reads, separated_read, joined_reads, maybe_reads, pieces_read, braces_read, guard_reads, object_members_read, class_members_read, expression_function_reads, statement_function_reads, default_function_reads, class_reads, exported_from_reads, exported_reads, braced_reads, import_list_reads, module_name_reads, property_reads, property_starts, arguments_read, bare_member_reads, with_function_reads, computed_reads, word_this, word_null, word_true, word_false, word_point, word_super, word_new, word_typeof, word_void, word_delete, word_in, word_instanceof, word_and, word_or, word_nullish, word_question, word_colon, word_extends, word_equals, word_if, word_else, word_for, word_while, word_do, word_break, word_continue, word_return, word_throw, word_try, word_catch, word_finally, word_switch, word_default, word_case, word_import, word_export}
+pub use Rattle.es_model.proofs.SpellingParts.{Within, Read, Reads, Starts, Weighs, kind_weighs, Each, Takes, sequence_reads, Claim}
 
--- Putting them together.
+abbrev IsRead : {s : t.Sort} → Tree s → Type 0
+IsRead {s} tree = Claim s (functions tree) (Spells tree)
 
-lower : (low mid high : ℕ) (forms : List FunctionForm) → low ≤ mid → Within mid high forms → Within low high forms
-lower low mid high [] le h = omega (arith, h)
-lower low mid high (form ∷ forms) le h = (omega (arith, h.0), h.1)
+-- One lemma for each form, from those of its parts, so that each is checked once and alone.
 
-within_joined : (low mid high : ℕ) (forms others : List FunctionForm) → Within low mid forms → Within mid high others → Within low high (forms ++ others)
-within_joined low mid high [] others h g = lower low mid high others h g
-within_joined low mid high (form ∷ forms) others h g = (h.0, within_joined (suc (place_of_function form)) mid high forms others h.1 g)
+number_form : (value : ℤ) → IsRead (t.Number value)
+unfolding Spells functions inner
+number_form value = one_reads _ 0 0 (λ token e. kind_weighs 0 0 token.kind (k.Number value) (number_weighs value) e)
 
-read_joined : {l u d m v e : ℕ} {fs gs : List FunctionForm} {from mid to : Tokens} → Read l u d fs from mid → Read m v e gs mid to → Read (l + m) (u + v) (d + e) (fs ++ gs) from to
-read_joined {fs = fs} {gs = gs} x y = record {
-  fewer = omega (arith, x.fewer, y.fewer);
-  signs = omega (arith, x.signs, y.signs);
-  places = λ low ascend. let p = x.places low ascend in let q = y.places p.0 p.1 in (q.0, q.1, within_joined low p.0 q.0 fs gs p.2 q.2);
-}
-
-read_loose : {l u d : ℕ} {fs : List FunctionForm} {from to : Tokens} → Read l u d fs from to → Read 0 u d fs from to
-read_loose x = record { fewer = omega (arith, x.fewer); signs = x.signs; places = x.places }
-
-along : {l u d : ℕ} {fs gs : List FunctionForm} {r : Reading} → fs ≡ gs → Reads l u d fs r → Reads l u d gs r
-along {l} {u} {d} {r = r} e reads = subst (λ fs. Reads l u d fs r) e reads
-
-seq : {l u d m v e : ℕ} {fs gs : List FunctionForm} {r q : Reading} → Reads l u d fs r → Reads m v e gs q → Reads (l + m) (u + v) (d + e) (fs ++ gs) (r ▸ q)
-seq one other from to h = read_joined (one from h.0 h.1) (other h.0 to h.2)
-
--- where no function stands in the second
-behind : {l u d m v e : ℕ} {fs : List FunctionForm} {r q : Reading} → Reads l u d fs r → Reads m v e [] q → Reads (l + m) (u + v) (d + e) fs (r ▸ q)
-behind {fs = fs} one other = along (append-nil fs) (seq one other)
-
-loose : {l u d : ℕ} {fs : List FunctionForm} {r : Reading} → Reads l u d fs r → Reads 0 u d fs r
-loose reads from to h = read_loose (reads from to h)
-
--- at least one token, and as many closing signs as opening ones
-once : {l n : ℕ} {fs : List FunctionForm} {r : Reading} → Reads (suc l) n n fs r → Reads 1 0 0 fs r
-once reads from to h = let x = reads from to h in record { fewer = omega (arith, x.fewer); signs = omega (arith, x.signs); places = x.places }
-
-any : {l n : ℕ} {fs : List FunctionForm} {r : Reading} → Reads l n n fs r → Reads 0 0 0 fs r
-any reads from to h = let x = reads from to h in record { fewer = omega (arith, x.fewer); signs = omega (arith, x.signs); places = x.places }
-
-under : (fact : Reading) {l u d : ℕ} {fs : List FunctionForm} {r : Reading} → Reads l u d fs r → Reads l u d fs (λ from to. fact from to × r from to)
-under fact reads from to h = reads from to h.1
-
-either : {l u d : ℕ} {fs : List FunctionForm} {r q : Reading} → Reads l u d fs r → Reads l u d fs q → Reads l u d fs (r ∣ q)
-either one other from to (inl h) = one from to h
-either one other from to (inr h) = other from to h
-
-nothing_reads : Reads 0 0 0 [] nothing
-nothing_reads from to h = record {
-  fewer = omega (arith, ap length h);
-  signs = omega (arith, ap openings h, ap closings h);
-  places = λ low ascend. (low, subst (AscendFrom low) h ascend, omega arith);
-}
-
--- One token.
-
-abbrev pub Weighs : ℕ → ℕ → TokenKind → Type 0
-Weighs u d kind = (one_if (opens kind) ≡ u) × (one_if (closes kind) ≡ d)
-
-one_reads : (test : Token → Type 0) (u d : ℕ) → ((token : Token) → test token → Weighs u d token.kind) → Reads 1 u d [] (One test)
-one_reads test u d weighs [] to h = absurd h
-one_reads test u d weighs (token ∷ tokens) to h = let w = weighs token h.0 in record {
-  fewer = omega (arith, ap length h.1);
-  signs = omega (arith, w.0, w.1, ap openings h.1, ap closings h.1);
-  places = λ low ascend. (suc token.at, subst (AscendFrom (suc token.at)) h.1 ascend.1, omega (arith, ascend.0));
-}
-
-one_starts : (test : Token → Type 0) (u d : ℕ) → ((token : Token) → test token → Weighs u d token.kind) → Starts 1 u d [] (One test)
-one_starts test u d weighs form [] to h = absurd h.0
-one_starts test u d weighs form (token ∷ tokens) to h = let w = weighs token h.1.0 in record {
-  fewer = omega (arith, ap length h.1.1);
-  signs = omega (arith, w.0, w.1, ap openings h.1.1, ap closings h.1.1);
-  places = λ low ascend. (suc token.at, subst (AscendFrom (suc token.at)) h.1.1 ascend.1, (omega (arith, ascend.0, h.0), omega (arith, h.0)));
-}
-
-pub kind_weighs : (u d : ℕ) (kind other : TokenKind) → Weighs u d other → kind ≡ other → Weighs u d kind
-kind_weighs u d kind other w e = subst (Weighs u d) (sym e) w
-
--- a word that is no such sign, an opening sign, and a closing one
-
-the_reads : (text : String) (u d : ℕ) → Weighs u d (word text) → Reads 1 u d [] (the text)
-the_reads text u d w = one_reads _ u d (λ token e. kind_weighs u d token.kind (word text) w e)
-
-the_starts : (text : String) (u d : ℕ) → Weighs u d (word text) → Starts 1 u d [] (the text)
-the_starts text u d w = one_starts _ u d (λ token e. kind_weighs u d token.kind (word text) w e)
-
-name_weighs : (text : Text) → Weighs 0 0 (k.Name text)
-unfolding word
-name_weighs text = (refl, refl)
-
-the_name_reads : (text : String) → Reads 1 0 0 [] (the_name text)
-the_name_reads text = one_reads _ 0 0 (λ token e. kind_weighs 0 0 token.kind (k.Name (codes text)) (name_weighs (codes text)) e)
-
-the_name_starts : (text : String) → Starts 1 0 0 [] (the_name text)
-the_name_starts text = one_starts _ 0 0 (λ token e. kind_weighs 0 0 token.kind (k.Name (codes text)) (name_weighs (codes text)) e)
-
-name_reads : (identifier : Identifier) → Reads 1 0 0 [] (name identifier)
-name_reads identifier = one_reads _ 0 0 (λ token e. kind_weighs 0 0 token.kind (k.Name identifier.name) (name_weighs identifier.name) e.0)
-
-name_starts : (identifier : Identifier) → Starts 1 0 0 [] (name identifier)
-name_starts identifier = one_starts _ 0 0 (λ token e. kind_weighs 0 0 token.kind (k.Name identifier.name) (name_weighs identifier.name) e.0)
-
-number_weighs : (value : ℤ) → Weighs 0 0 (k.Number value)
-unfolding word
-number_weighs value = (refl, refl)
-
-string_weighs : (text : Text) → Weighs 0 0 (k.String text)
-unfolding word
-string_weighs text = (refl, refl)
-
-property_weighs : (kind : TokenKind) (text : Text) → plain_name kind ≡ Some text → Weighs 0 0 kind
-unfolding word
-property_weighs (k.Name _) text e = (refl, refl)
-property_weighs (k.Keyword _) text e = (refl, refl)
-property_weighs (k.Number _) text e = absurd (cc e)
-property_weighs (k.String _) text e = absurd (cc e)
-property_weighs (k.Template _ _ _) text e = absurd (cc e)
-property_weighs (k.Sign _) text e = absurd (cc e)
-property_weighs k.End text e = absurd (cc e)
-
-plain : (text : String) → Weighs 0 0 (word text) → Reads 1 0 0 [] (the text)
-plain text w = the_reads text 0 0 w
-
-comma : Reads 1 0 0 [] (the ",")
-unfolding word
-comma = plain "," (refl, refl)
-
-opening_parenthesis : Reads 1 1 0 [] (the "(")
-unfolding word
-opening_parenthesis = the_reads "(" 1 0 (refl, refl)
-
-closing_parenthesis : Reads 1 0 1 [] (the ")")
-unfolding word
-closing_parenthesis = the_reads ")" 0 1 (refl, refl)
-
-opening_bracket : Reads 1 1 0 [] (the "[")
-unfolding word
-opening_bracket = the_reads "[" 1 0 (refl, refl)
-
-closing_bracket : Reads 1 0 1 [] (the "]")
-unfolding word
-closing_bracket = the_reads "]" 0 1 (refl, refl)
-
-opening_brace : Reads 1 1 0 [] (the "{")
-unfolding word
-opening_brace = the_reads "{" 1 0 (refl, refl)
-
-closing_brace : Reads 1 0 1 [] (the "}")
-unfolding word
-closing_brace = the_reads "}" 0 1 (refl, refl)
-
--- something between two such signs
-in_parentheses : {l n : ℕ} {fs : List FunctionForm} {r : Reading} → Reads l n n fs r → Reads 1 0 0 fs (the "(" ▸ r ▸ the ")")
-in_parentheses reads = once (seq opening_parenthesis (behind (any reads) closing_parenthesis))
-
-in_brackets : {l n : ℕ} {fs : List FunctionForm} {r : Reading} → Reads l n n fs r → Reads 1 0 0 fs (the "[" ▸ r ▸ the "]")
-in_brackets reads = once (seq opening_bracket (behind (any reads) closing_bracket))
-
-in_braces : {l n : ℕ} {fs : List FunctionForm} {r : Reading} → Reads l n n fs r → Reads 1 0 0 fs (the "{" ▸ r ▸ the "}")
-in_braces reads = once (seq opening_brace (behind (any reads) closing_brace))
-
--- what stands behind an opening parenthesis, up to its closing one, and then more
-then_in_parentheses : {l n m v : ℕ} {fs gs : List FunctionForm} {r q : Reading} → Reads l n n fs r → Reads m v v gs q → Reads 1 0 0 (fs ++ gs) (the "(" ▸ r ▸ the ")" ▸ q)
-then_in_parentheses reads more = once (seq opening_parenthesis (seq (any reads) (seq closing_parenthesis (any more))))
-
-operator_weighs : (operator : BinaryOperator) → Weighs 0 0 (word (operator_sign operator))
-unfolding word
-operator_weighs b.Add = (refl, refl)
-operator_weighs b.Subtract = (refl, refl)
-operator_weighs b.Multiply = (refl, refl)
-operator_weighs b.Divide = (refl, refl)
-operator_weighs b.Remainder = (refl, refl)
-operator_weighs b.Power = (refl, refl)
-operator_weighs b.BitAnd = (refl, refl)
-operator_weighs b.BitOr = (refl, refl)
-operator_weighs b.BitXor = (refl, refl)
-operator_weighs b.ShiftLeft = (refl, refl)
-operator_weighs b.ShiftRight = (refl, refl)
-operator_weighs b.ShiftRightUnsigned = (refl, refl)
-operator_weighs b.Less = (refl, refl)
-operator_weighs b.Greater = (refl, refl)
-operator_weighs b.LessOrEqual = (refl, refl)
-operator_weighs b.GreaterOrEqual = (refl, refl)
-operator_weighs b.Equal = (refl, refl)
-operator_weighs b.NotEqual = (refl, refl)
-operator_weighs b.StrictEqual = (refl, refl)
-operator_weighs b.StrictNotEqual = (refl, refl)
-
-unary_weighs : (operator : UnaryOperator) → Weighs 0 0 (word (unary_sign operator))
-unfolding word
-unary_weighs u.Not = (refl, refl)
-unary_weighs u.Negate = (refl, refl)
-unary_weighs u.Plus = (refl, refl)
-unary_weighs u.BitNot = (refl, refl)
-
-assigning_reads : (operator : Option BinaryOperator) → Reads 1 0 0 [] (s.assigning (assignment_sign operator))
-unfolding word
-assigning_reads None = plain "=" (refl, refl)
-assigning_reads (Some b.Add) = plain "+=" (refl, refl)
-assigning_reads (Some b.Subtract) = plain "-=" (refl, refl)
-assigning_reads (Some b.Multiply) = plain "*=" (refl, refl)
-assigning_reads (Some b.Divide) = plain "/=" (refl, refl)
-assigning_reads (Some b.Remainder) = plain "%=" (refl, refl)
-assigning_reads (Some b.Power) = plain "**=" (refl, refl)
-assigning_reads (Some b.BitAnd) = plain "&=" (refl, refl)
-assigning_reads (Some b.BitOr) = plain "|=" (refl, refl)
-assigning_reads (Some b.BitXor) = plain "^=" (refl, refl)
-assigning_reads (Some b.ShiftLeft) = plain "<<=" (refl, refl)
-assigning_reads (Some b.ShiftRight) = plain ">>=" (refl, refl)
-assigning_reads (Some b.ShiftRightUnsigned) = plain ">>>=" (refl, refl)
-assigning_reads (Some _) = λ from to h. absurd h
-
-step_reads : (up : Bool) → Reads 1 0 0 [] (s.step up)
-unfolding word
-step_reads true = plain "++" (refl, refl)
-step_reads false = plain "--" (refl, refl)
-
-declaring_word_reads : (constant : Bool) → Reads 1 0 0 [] (s.declaring_word constant)
-unfolding word
-declaring_word_reads true = plain "const" (refl, refl)
-declaring_word_reads false = plain "let" (refl, refl)
-
-written_reads : Reads 1 0 0 [] (the ";")
-unfolding word
-written_reads = plain ";" (refl, refl)
-
-semicolon_reads : (may : Token → Bool) (mark : Semi) → Reads 0 0 0 [] (semicolon may mark)
-semicolon_reads may semi.Written = loose written_reads
-semicolon_reads may semi.Missing = λ from to h. nothing_reads from to h.0
-
-maybe_name_reads : (own : Option Identifier) → Reads 0 0 0 [] (maybe_name own)
-maybe_name_reads None = nothing_reads
-maybe_name_reads (Some own) = loose (name_reads own)
-
-maybe_comma_reads : Reads 0 0 0 [] s.maybe_comma
-maybe_comma_reads = either nothing_reads (loose comma)
-
-class_name_reads : (named : Bool) (own : Option Identifier) → Reads 0 0 0 [] (s.class_name named own)
-class_name_reads true None = λ from to h. absurd h
-class_name_reads true (Some own) = maybe_name_reads (Some own)
-class_name_reads false own = maybe_name_reads own
-
-catch_name_reads : (caught : Option Identifier) → Reads 0 0 0 [] (s.catch_name caught)
-catch_name_reads None = nothing_reads
-catch_name_reads (Some caught) = loose (in_parentheses (name_reads caught))
-
-names_read : (names : List Identifier) → Reads 0 0 0 [] (s.names names)
-names_read [] = nothing_reads
-names_read (one ∷ []) = loose (seq (name_reads one) maybe_comma_reads)
-names_read (one ∷ (two ∷ rest)) = loose (seq (name_reads one) (seq comma (names_read (two ∷ rest))))
-
-parameters_start : (names : List Identifier) → Starts 1 0 0 [] (the "(" ▸ s.names names ▸ the ")")
-unfolding word
-parameters_start names form from to h = once (seq (the_starts "(" 1 0 (refl, refl) form) (seq (names_read names) closing_parenthesis)) from to (h.1.0, (h.0, h.1.1), h.1.2)
-
-either_starts : {r q : Reading} → Starts 1 0 0 [] r → Starts 1 0 0 [] q → Starts 1 0 0 [] (r ∣ q)
-either_starts one other form from to (first, inl h) = one form from to (first, h)
-either_starts one other form from to (first, inr h) = other form from to (first, h)
-
-arrow_names_start : (names : List Identifier) → Starts 1 0 0 [] (s.arrow_names names)
-arrow_names_start [] = parameters_start []
-arrow_names_start (one ∷ []) = either_starts (parameters_start (one ∷ [])) (name_starts one)
-arrow_names_start (one ∷ (two ∷ rest)) = parameters_start (one ∷ (two ∷ rest))
-
-one_name_reads : (names : List Identifier) → Reads 0 0 0 [] (s.one_name names)
-one_name_reads [] = λ from to h. absurd h
-one_name_reads (one ∷ []) = loose (name_reads one)
-one_name_reads (one ∷ (two ∷ rest)) = λ from to h. absurd h
-
-no_name_reads : (names : List Identifier) → Reads 0 0 0 [] (s.no_name names)
-no_name_reads [] = nothing_reads
-no_name_reads (one ∷ rest) = λ from to h. absurd h
-
-member_parameters_read : (kind : MemberKind) (names : List Identifier) → Reads 0 0 0 [] (s.member_parameters kind names)
-member_parameters_read m.Value names = names_read names
-member_parameters_read m.Short names = names_read names
-member_parameters_read m.Method names = names_read names
-member_parameters_read m.Getter names = no_name_reads names
-member_parameters_read m.Setter names = one_name_reads names
-
-semicolons_read : Reads 0 0 0 [] Semicolons
-semicolons_read from to no_more = nothing_reads from to refl
-semicolons_read from to (one_more {mid = mid} h more) = read_loose (read_joined (written_reads from mid h) (semicolons_read mid to more))
-
--- Lists and options of readings, with the functions of each.
-
-abbrev pub Each : {A : Type 1} → (List FunctionForm → A → Type 0) → List FunctionForm → List {1} A → Type 0
-Each claim forms [] = forms ≡ []
-Each claim forms (one ∷ rest) = (first others : List FunctionForm) × (forms ≡ first ++ others) × claim first one × Each claim others rest
-
-abbrev IfThere : {A : Type 1} → (List FunctionForm → A → Type 0) → List FunctionForm → Maybe A → Type 0
-IfThere claim forms LeftOut = forms ≡ []
-IfThere claim forms (There one) = claim forms one
-
-abbrev pub Takes : List FunctionForm → Reading → Type 0
-Takes forms reading = Reads 1 0 0 forms reading
-
-abbrev MemberTakes : List FunctionForm → (Holder → Reading) → Type 0
-MemberTakes forms member = (holder : Holder) → Takes forms (member holder)
-
-pub sequence_reads : (forms : List FunctionForm) (readings : List {1} Reading) → Each Takes forms readings → Reads 0 0 0 forms (s.sequence readings)
-sequence_reads forms [] none = along (sym none) nothing_reads
-sequence_reads forms (one ∷ rest) h = along (sym h.2) (loose (seq h.3 (sequence_reads h.1 rest h.4)))
-
-separated_read : (forms : List FunctionForm) (readings : List {1} Reading) → Each Takes forms readings → Reads 0 0 0 forms (s.separated readings)
-separated_read forms [] none = along (sym none) nothing_reads
-separated_read forms (one ∷ []) h = along (sym h.2) (loose (seq h.3 (along (sym h.4) maybe_comma_reads)))
-separated_read forms (one ∷ (two ∷ rest)) h = along (sym h.2) (loose (seq h.3 (seq comma (separated_read h.1 (two ∷ rest) h.4))))
-
-joined_reads : (forms : List FunctionForm) (readings : List {1} Reading) → Each Takes forms readings → Takes forms (s.joined readings)
-joined_reads forms [] none = λ from to h. absurd h
-joined_reads forms (one ∷ []) h = along (sym (h.2 ∙ ap (λ others. h.0 ++ others) h.4 ∙ append-nil h.0)) h.3
-joined_reads forms (one ∷ (two ∷ rest)) h = along (sym h.2) (once (seq h.3 (seq comma (joined_reads h.1 (two ∷ rest) h.4))))
-
-maybe_reads : (forms : List FunctionForm) (reading : Maybe Reading) → IfThere Takes forms reading → Reads 0 0 0 forms (s.maybe reading)
-maybe_reads forms LeftOut none = along (sym none) nothing_reads
-maybe_reads forms (There reading) takes = loose takes
-
-piece_reads : (text : Text) (first last : Bool) → Takes [] (s.piece text first last)
-unfolding word
-piece_reads text first last = one_reads _ 0 0 (λ token e. kind_weighs 0 0 token.kind (k.Template text first last) (refl, refl) e)
-
-pieces_read : (first : Bool) (texts : List Text) (forms : List FunctionForm) (values : List {1} Reading) → Each Takes forms values → Takes forms (s.pieces first texts values)
-pieces_read first [] forms values each = λ from to h. absurd h
-pieces_read first (text ∷ []) forms [] none = along (sym none) (piece_reads text first true)
-pieces_read first (text ∷ (other ∷ texts)) forms [] none = λ from to h. absurd h
-pieces_read first (text ∷ texts) forms (value ∷ values) h = along (sym h.2) (once (seq (piece_reads text first false) (seq h.3 (pieces_read false texts h.1 values h.4))))
-
-braces_read : (forms : List FunctionForm) (statements : List {1} Reading) → Each Takes forms statements → Takes forms (s.braces statements)
-braces_read forms statements each = in_braces (sequence_reads forms statements each)
-
-guard_reads : {before : Reading} → Reads 0 0 0 [] before → (forms : List FunctionForm) (statements : Maybe (List {1} Reading)) → IfThere (Each Takes) forms statements → Reads 0 0 0 forms (s.guard before statements)
-guard_reads before forms LeftOut none = along (sym none) nothing_reads
-guard_reads before forms (There statements) each = loose (seq before (braces_read forms statements each))
-
-object_members_read : (forms : List FunctionForm) (members : List {1} (Holder → Reading)) → Each MemberTakes forms members → Reads 0 0 0 forms (s.object_members members)
-object_members_read forms [] none = along (sym none) nothing_reads
-object_members_read forms (one ∷ []) h = along (sym h.2) (loose (seq (h.3 InObject) (along (sym h.4) maybe_comma_reads)))
-object_members_read forms (one ∷ (two ∷ rest)) h = along (sym h.2) (loose (seq (h.3 InObject) (seq comma (object_members_read h.1 (two ∷ rest) h.4))))
-
-class_members_read : (derived : Bool) (forms : List FunctionForm) (members : List {1} (Holder → Reading)) → Each MemberTakes forms members → Reads 0 0 0 forms (s.class_members derived members)
-class_members_read derived forms [] none = along (sym none) semicolons_read
-class_members_read derived forms (one ∷ rest) h = along (sym h.2) (loose (seq semicolons_read (seq (h.3 (InClass derived)) (class_members_read derived h.1 rest h.4))))
-
--- Functions and classes.
-
--- behind the name of a function: its parameters and its body
-rest_reads : {parameters body : Reading} {fs : List FunctionForm} → Reads 0 0 0 [] parameters → Takes fs body → Takes fs (the "(" ▸ parameters ▸ the ")" ▸ body)
-rest_reads parameters body = then_in_parentheses parameters body
-
-plain_function_reads : (form : FunctionForm) {fs : List FunctionForm} {own body : Reading} → Reads 0 0 0 [] own → (parameters : List Identifier) → Takes fs body → Takes (form ∷ fs) (s.plain_function (place_of_function form) own parameters body)
-unfolding word
-plain_function_reads form own parameters body from to h = once (seq (the_starts "function" 0 0 (refl, refl) form) (seq own (rest_reads (names_read parameters) body))) from to (h.1.0, (h.0, h.1.1), h.1.2)
-
-arrow_reads : (form : FunctionForm) {fs : List FunctionForm} {body : Reading} (parameters : List Identifier) → Takes fs body → Takes (form ∷ fs) (here (place_of_function form) (s.arrow_names parameters ▸ same_line (the "=>") ▸ body))
-unfolding word
-arrow_reads form parameters body from to h = once (seq (arrow_names_start parameters form) (seq (under (λ a c. First (λ token. token.line_before ≡ false) a) (plain "=>" (refl, refl))) body)) from to (h.1.0, (h.0, h.1.1), h.1.2)
-
-expression_function_reads : (form : FunctionForm) (own : Option Identifier) (kind : FunctionKind) (parameters : List Identifier) {fs : List FunctionForm} (body : Bool → Reading) → ((arrow : Bool) → Takes fs (body arrow)) → Takes (form ∷ fs) (s.function_reading AsExpression (place_of_function form) own kind parameters body)
-expression_function_reads form own f.Plain parameters body takes = plain_function_reads form (maybe_name_reads own) parameters (takes false)
-expression_function_reads form None f.Arrow parameters body takes = arrow_reads form parameters (takes true)
-expression_function_reads form _ _ parameters body takes = λ from to h. absurd h
-
-statement_function_reads : (form : FunctionForm) (own : Option Identifier) (kind : FunctionKind) (parameters : List Identifier) {fs : List FunctionForm} (body : Bool → Reading) → ((arrow : Bool) → Takes fs (body arrow)) → Takes (form ∷ fs) (s.function_reading AsStatement (place_of_function form) own kind parameters body)
-statement_function_reads form (Some own) f.Plain parameters body takes = plain_function_reads form (loose (name_reads own)) parameters (takes false)
-statement_function_reads form _ _ parameters body takes = λ from to h. absurd h
-
-default_function_reads : (form : FunctionForm) (own : Option Identifier) (kind : FunctionKind) (parameters : List Identifier) {fs : List FunctionForm} (body : Bool → Reading) → ((arrow : Bool) → Takes fs (body arrow)) → Takes (form ∷ fs) (s.function_reading AsDefault (place_of_function form) own kind parameters body)
-default_function_reads form own f.Plain parameters body takes = plain_function_reads form (maybe_name_reads own) parameters (takes false)
-default_function_reads form _ _ parameters body takes = λ from to h. absurd h
-
-class_reads : (written : Bool) (class : Tree t.class) {fs : List FunctionForm} {more : Reading} → Reads 0 0 0 fs more → Takes (generated written class ++ fs) (here (place_of_function (Generated class)) (the "class" ▸ more))
-unfolding word
-class_reads true class more from to h = once (seq (plain "class" (refl, refl)) more) from to h.1
-class_reads false class more from to h = once (seq (the_starts "class" 0 0 (refl, refl) (Generated class)) more) from to (h.1.0, (h.0, h.1.1), h.1.2)
-
--- Members. A method's place is that of its member, so its key stands behind it.
-
-then_starts : {fs gs : List FunctionForm} {l n : ℕ} {r q : Reading} → Starts 1 0 0 fs r → Reads l n n gs q → Starts 1 0 0 (fs ++ gs) (r ▸ q)
-then_starts starts more form from to h = once (seq (starts form) (any more)) from to (h.1.0, (h.0, h.1.1), h.1.2)
-
-nothing_starts : {fs : List FunctionForm} {r : Reading} → Starts 1 0 0 fs r → Starts 1 0 0 fs (nothing ▸ r)
-nothing_starts {r = r} starts form from to h = starts form from to (h.0, subst (λ x. r x to) (sym h.1.1) h.1.2)
-
-accessor_reads : (kind : MemberKind) {fs : List FunctionForm} {r : Reading} → Takes fs r → Takes fs (s.accessor_word kind ▸ r)
-accessor_reads m.Value takes = once (seq nothing_reads takes)
-accessor_reads m.Short takes = once (seq nothing_reads takes)
-accessor_reads m.Method takes = once (seq nothing_reads takes)
-accessor_reads m.Getter takes = once (seq (the_name_reads "get") takes)
-accessor_reads m.Setter takes = once (seq (the_name_reads "set") takes)
-
-accessor_starts : (kind : MemberKind) {fs : List FunctionForm} {r : Reading} → Takes fs r → Starts 1 0 0 fs r → Starts 1 0 0 fs (s.accessor_word kind ▸ r)
-accessor_starts m.Value takes starts = nothing_starts starts
-accessor_starts m.Short takes starts = nothing_starts starts
-accessor_starts m.Method takes starts = nothing_starts starts
-accessor_starts m.Getter takes starts = then_starts (the_name_starts "get") takes
-accessor_starts m.Setter takes starts = then_starts (the_name_starts "set") takes
-
-member_starts : (fixed : Bool) (kind : MemberKind) {fs : List FunctionForm} {r : Reading} → Takes fs r → Starts 1 0 0 fs r → Starts 1 0 0 fs (s.static_before fixed ▸ s.accessor_word kind ▸ r)
-unfolding word
-member_starts true kind takes starts = then_starts (the_starts "static" 0 0 (refl, refl)) (accessor_reads kind takes)
-member_starts false kind takes starts = nothing_starts (accessor_starts kind takes starts)
-
--- the reading of a key, as it is and where a token begins it
-abbrev KeyTakes : List FunctionForm → Reading → Type 0
-KeyTakes forms reading = Takes forms reading × Starts 1 0 0 forms reading
-
-function_member_reads : (form : FunctionForm) (holder : Holder) (at : ℕ) (fixed : Bool) (kind : MemberKind) (key : Tree t.key) {keys fs : List FunctionForm} (reading : Reading) (own : Option Identifier) (due : FunctionKind) (parameters : List Identifier) (body : Bool → Reading) → KeyTakes keys reading → Takes fs (body false)
-    → Takes (form ∷ keys ++ fs) (s.function_member holder at fixed kind key reading (λ how. s.function_reading how (place_of_function form) own due parameters body))
-function_member_reads form holder at fixed kind key reading own due parameters body keyed takes from to h =
-    let function : Takes _ (s.function_reading (AsMember at (s.member_function_kind holder fixed kind key) kind) (place_of_function form) own due parameters body) = λ a c g. rest_reads (member_parameters_read kind parameters) takes a c g.1 in
-    member_starts fixed kind (once (seq keyed.0 function)) (then_starts keyed.1 function) form from to (subst (λ x. First (λ token. token.at ≡ x) from) (sym h.1.1.2.2.2.0.0) h.1.0, h.1.1)
-
-value_member_reads : (holder : Holder) (at : ℕ) (fixed : Bool) {keys fs : List FunctionForm} (key value : Reading) → Takes keys key → Takes fs value → Takes (keys ++ fs) (s.value_member holder at fixed key value)
-unfolding word
-value_member_reads InObject at false key value one other = under _ (once (seq one (seq (plain ":" (refl, refl)) other)))
-value_member_reads InObject at true key value one other = λ from to h. absurd h
-value_member_reads (InClass derived) at fixed key value one other = λ from to h. absurd h
-
-short_member_reads : (holder : Holder) (at : ℕ) (fixed : Bool) (key : Tree t.key) → Takes (functions key) (s.short_member holder at fixed key)
-unfolding functions
-short_member_reads InObject at false (t.KeyWord text) = name_reads _
-short_member_reads _ _ _ _ = λ from to h. absurd h
-
--- Imports and exports, in which no function stands.
-
-outer_name_reads : (identifier : Identifier) → Takes [] (s.outer_name identifier)
-unfolding word
-outer_name_reads identifier = either (name_reads identifier) (under _ (under _ (plain "default" (refl, refl))))
-
-pair_reads : (both taken given_name : Identifier → Reading) → ((one : Identifier) → Takes [] (both one)) → ((one : Identifier) → Takes [] (taken one)) → ((one : Identifier) → Takes [] (given_name one)) → (pair : Pair) → Takes [] (s.pair both taken given_name pair)
-pair_reads both taken given_name b c d pair = either (under _ (b pair.given)) (once (seq (c pair.taken) (seq (the_name_reads "as") (d pair.given))))
-
-imported_reads : (pair : Pair) → Takes [] (s.imported pair)
-imported_reads pair = pair_reads name s.outer_name name name_reads outer_name_reads name_reads pair
-
-exported_from_reads : (pair : Pair) → Takes [] (s.exported_from pair)
-exported_from_reads pair = pair_reads s.outer_name s.outer_name s.outer_name outer_name_reads outer_name_reads outer_name_reads pair
-
-exported_reads : (pair : Pair) → Takes [] (s.exported pair)
-exported_reads pair = pair_reads name name s.outer_name name_reads name_reads outer_name_reads pair
-
-pairs_read : (each : Pair → Reading) → ((pair : Pair) → Takes [] (each pair)) → (list : List Pair) → Reads 0 0 0 [] (s.pairs each list)
-pairs_read each takes [] = nothing_reads
-pairs_read each takes (one ∷ []) = loose (seq (takes one) maybe_comma_reads)
-pairs_read each takes (one ∷ (two ∷ rest)) = loose (seq (takes one) (seq comma (pairs_read each takes (two ∷ rest))))
-
-braced_reads : (each : Pair → Reading) → ((pair : Pair) → Takes [] (each pair)) → (list : List Pair) → Takes [] (s.braced each list)
-braced_reads each takes list = in_braces (pairs_read each takes list)
-
-default_name_reads : (pair : Pair) → Takes [] (s.default_name pair)
-default_name_reads pair = under _ (name_reads pair.given)
-
-default_list_reads : (list : List Pair) → Takes [] (s.default_list list)
-default_list_reads [] = λ from to h. absurd h
-default_list_reads (one ∷ []) = once (seq (default_name_reads one) (either nothing_reads (loose (seq comma (braced_reads s.imported imported_reads [])))))
-default_list_reads (one ∷ (two ∷ rest)) = once (seq (default_name_reads one) (seq comma (braced_reads s.imported imported_reads (two ∷ rest))))
-
-import_list_reads : (list : List Pair) → Reads 0 0 0 [] (s.import_list list)
-import_list_reads list = either (under _ nothing_reads) (loose (seq (either (braced_reads s.imported imported_reads list) (default_list_reads list)) (the_name_reads "from")))
-
-module_name_reads : (text : Text) → Takes [] (s.module_name text)
-module_name_reads text = one_reads _ 0 0 (λ token e. kind_weighs 0 0 token.kind (k.String text) (string_weighs text) e)
-
-property_reads : (text : Text) → Takes [] (property text)
-property_reads text = one_reads _ 0 0 (λ token e. property_weighs token.kind text e)
-
-property_starts : (text : Text) → Starts 1 0 0 [] (property text)
-property_starts text = one_starts _ 0 0 (λ token e. property_weighs token.kind text e)
-
--- what is claimed of the readings of a sort, in which these functions stand
-abbrev pub Claim : (s : t.Sort) → List FunctionForm → Spelled s → Type 0
-Claim (t.list s) forms readings = Each (Claim s) forms readings
-Claim (t.option s) forms reading = IfThere (Claim s) forms reading
-Claim t.member forms reading = MemberTakes forms reading
-Claim t.function forms reading = Takes forms (reading AsExpression) × Takes forms (reading AsStatement) × Takes forms (reading AsDefault)
-Claim t.class forms reading = (named : Bool) → Takes forms (reading named)
-Claim t.body forms reading = (arrow : Bool) → Takes forms (reading arrow)
-Claim t.default forms reading = (mark : Semi) → Takes forms (reading mark)
-Claim t.head forms reading = Reads 0 0 0 forms reading
-Claim t.key forms reading = KeyTakes forms reading
-Claim t.expression forms reading = Takes forms reading
-Claim t.declarator forms reading = Takes forms reading
-Claim t.case forms reading = Takes forms reading
-Claim t.statement forms reading = Takes forms reading
-Claim t.item forms reading = Takes forms reading
-
--- the arguments of a call, in parentheses
-arguments_read : (fact : Type 0) (forms : List FunctionForm) (readings : List {1} Reading) → Each Takes forms readings → Takes forms (the "(" ▸ (λ from to. fact × s.separated readings from to) ▸ the ")")
-arguments_read fact forms readings each = in_parentheses (under (λ from to. fact) (separated_read forms readings each))
-
--- a member with no function of its own
-bare_member_reads : (holder : Holder) (at : ℕ) (fixed : Bool) (kind : MemberKind) (key : Tree t.key) (values : List FunctionForm) (reading : Reading) (value : Maybe Reading) → KeyTakes (functions key) reading → IfThere Takes values value → Takes (functions key ++ values) (s.member_reading holder at fixed kind key reading value LeftOut)
-bare_member_reads holder at fixed m.Value key values reading (There value) keyed takes = value_member_reads holder at fixed reading value keyed.0 takes
-bare_member_reads holder at fixed m.Short key values reading LeftOut keyed none = along (sym (ap (λ values. functions key ++ values) none ∙ append-nil (functions key))) (short_member_reads holder at fixed key)
-bare_member_reads _ _ _ _ _ _ _ LeftOut keyed takes = λ from to h. absurd h
-bare_member_reads _ _ _ _ _ _ _ (There _) keyed takes = λ from to h. absurd h
-
--- a member with a function
-with_function_reads : (form : FunctionForm) (holder : Holder) (at : ℕ) (fixed : Bool) (kind : MemberKind) (key : Tree t.key) (values : List FunctionForm) {fs : List FunctionForm} (reading : Reading) (value : Maybe Reading) (own : Option Identifier) (due : FunctionKind) (parameters : List Identifier) (body : Bool → Reading) → KeyTakes (functions key) reading → IfThere Takes values value → Takes fs (body false)
-    → Takes (form ∷ functions key ++ (values ++ fs)) (s.member_reading holder at fixed kind key reading value (There (λ how. s.function_reading how (place_of_function form) own due parameters body)))
-with_function_reads form holder at fixed m.Method key values {fs = fs} reading LeftOut own due parameters body keyed none takes = along (ap (λ values. form ∷ functions key ++ (values ++ fs)) (sym none)) (function_member_reads form holder at fixed m.Method key reading own due parameters body keyed takes)
-with_function_reads form holder at fixed m.Getter key values {fs = fs} reading LeftOut own due parameters body keyed none takes = along (ap (λ values. form ∷ functions key ++ (values ++ fs)) (sym none)) (function_member_reads form holder at fixed m.Getter key reading own due parameters body keyed takes)
-with_function_reads form holder at fixed m.Setter key values {fs = fs} reading LeftOut own due parameters body keyed none takes = along (ap (λ values. form ∷ functions key ++ (values ++ fs)) (sym none)) (function_member_reads form holder at fixed m.Setter key reading own due parameters body keyed takes)
-with_function_reads _ _ _ _ m.Value _ _ _ LeftOut _ _ _ _ keyed takes others = λ from to h. absurd h
-with_function_reads _ _ _ _ m.Value _ _ _ (There _) _ _ _ _ keyed takes others = λ from to h. absurd h
-with_function_reads _ _ _ _ m.Short _ _ _ LeftOut _ _ _ _ keyed takes others = λ from to h. absurd h
-with_function_reads _ _ _ _ _ _ _ _ _ _ _ _ _ keyed takes others = λ from to h. absurd h
-
--- the key between its brackets
-computed_reads : {fs : List FunctionForm} {r : Reading} → Takes fs r → KeyTakes fs (the "[" ▸ r ▸ the "]")
-unfolding word
-computed_reads takes = (in_brackets takes, λ form from to h. once (seq (the_starts "[" 1 0 (refl, refl) form) (behind takes closing_bracket)) from to (h.1.0, (h.0, h.1.1), h.1.2))
-
--- The other words of the forms.
-
-word_this : Takes [] (the "this")
-unfolding word
-word_this = plain "this" (refl, refl)
-
-word_null : Takes [] (the "null")
-unfolding word
-word_null = plain "null" (refl, refl)
-
-word_true : Takes [] (the "true")
-unfolding word
-word_true = plain "true" (refl, refl)
-
-word_false : Takes [] (the "false")
-unfolding word
-word_false = plain "false" (refl, refl)
-
-word_point : Takes [] (the ".")
-unfolding word
-word_point = plain "." (refl, refl)
-
-word_super : Takes [] (the "super")
-unfolding word
-word_super = plain "super" (refl, refl)
-
-word_new : Takes [] (the "new")
-unfolding word
-word_new = plain "new" (refl, refl)
-
-word_typeof : Takes [] (the "typeof")
-unfolding word
-word_typeof = plain "typeof" (refl, refl)
-
-word_void : Takes [] (the "void")
-unfolding word
-word_void = plain "void" (refl, refl)
-
-word_delete : Takes [] (the "delete")
-unfolding word
-word_delete = plain "delete" (refl, refl)
-
-word_in : Takes [] (the "in")
-unfolding word
-word_in = plain "in" (refl, refl)
-
-word_instanceof : Takes [] (the "instanceof")
-unfolding word
-word_instanceof = plain "instanceof" (refl, refl)
-
-word_and : Takes [] (the "&&")
-unfolding word
-word_and = plain "&&" (refl, refl)
-
-word_or : Takes [] (the "||")
-unfolding word
-word_or = plain "||" (refl, refl)
-
-word_nullish : Takes [] (the "??")
-unfolding word
-word_nullish = plain "??" (refl, refl)
-
-word_question : Takes [] (the "?")
-unfolding word
-word_question = plain "?" (refl, refl)
-
-word_colon : Takes [] (the ":")
-unfolding word
-word_colon = plain ":" (refl, refl)
-
-word_extends : Takes [] (the "extends")
-unfolding word
-word_extends = plain "extends" (refl, refl)
-
-word_equals : Takes [] (the "=")
-unfolding word
-word_equals = plain "=" (refl, refl)
-
-word_if : Takes [] (the "if")
-unfolding word
-word_if = plain "if" (refl, refl)
-
-word_else : Takes [] (the "else")
-unfolding word
-word_else = plain "else" (refl, refl)
-
-word_for : Takes [] (the "for")
-unfolding word
-word_for = plain "for" (refl, refl)
-
-word_while : Takes [] (the "while")
-unfolding word
-word_while = plain "while" (refl, refl)
-
-word_do : Takes [] (the "do")
-unfolding word
-word_do = plain "do" (refl, refl)
-
-word_break : Takes [] (the "break")
-unfolding word
-word_break = plain "break" (refl, refl)
-
-word_continue : Takes [] (the "continue")
-unfolding word
-word_continue = plain "continue" (refl, refl)
-
-word_return : Takes [] (the "return")
-unfolding word
-word_return = plain "return" (refl, refl)
-
-word_throw : Takes [] (the "throw")
-unfolding word
-word_throw = plain "throw" (refl, refl)
-
-word_try : Takes [] (the "try")
-unfolding word
-word_try = plain "try" (refl, refl)
-
-word_catch : Takes [] (the "catch")
-unfolding word
-word_catch = plain "catch" (refl, refl)
-
-word_finally : Takes [] (the "finally")
-unfolding word
-word_finally = plain "finally" (refl, refl)
-
-word_switch : Takes [] (the "switch")
-unfolding word
-word_switch = plain "switch" (refl, refl)
-
-word_default : Takes [] (the "default")
-unfolding word
-word_default = plain "default" (refl, refl)
-
-word_case : Takes [] (the "case")
-unfolding word
-word_case = plain "case" (refl, refl)
-
-word_import : Takes [] (the "import")
-unfolding word
-word_import = plain "import" (refl, refl)
-
-word_export : Takes [] (the "export")
-unfolding word
-word_export = plain "export" (refl, refl)
+string_form : (text : Text) → IsRead (t.String text)
+unfolding Spells functions inner
+string_form text = one_reads _ 0 0 (λ token e. kind_weighs 0 0 token.kind (k.String text) (string_weighs text) e)
+
+template_form : (texts : List Text) (values : Tree (t.list t.expression)) → IsRead values → IsRead (t.Template texts values)
+unfolding Spells functions inner
+template_form texts values values_reads = pieces_read true texts (functions values) (Spells values) values_reads
+
+array_form : (items : Tree (t.list t.expression)) → IsRead items → IsRead (t.Array items)
+unfolding Spells functions inner
+array_form items items_reads = in_brackets (under _ (separated_read (functions items) (Spells items) items_reads))
+
+object_form : (members : Tree (t.list t.member)) → IsRead members → IsRead (t.Object members)
+unfolding Spells functions inner
+object_form members members_reads = in_braces (object_members_read (functions members) (Spells members) members_reads)
+
+dot_form : (of : Tree t.expression) (text : Text) → IsRead of → IsRead (t.Dot of text)
+unfolding Spells functions inner
+dot_form of text of_reads = once (behind (under _ of_reads) (seq word_point (property_reads text)))
+
+index_form : (of key : Tree t.expression) → IsRead of → IsRead key → IsRead (t.Index of key)
+unfolding Spells functions inner
+index_form of key of_reads key_reads = once (seq (under _ of_reads) (in_brackets key_reads))
+
+super_dot_form : (at : ℕ) (text : Text) → IsRead (t.SuperDot at text)
+unfolding Spells functions inner
+super_dot_form at text = under _ (once (seq word_super (seq word_point (property_reads text))))
+
+super_index_form : (at : ℕ) (key : Tree t.expression) → IsRead key → IsRead (t.SuperIndex at key)
+unfolding Spells functions inner
+super_index_form at key key_reads = under _ (once (seq word_super (in_brackets key_reads)))
+
+call_form : (callee : Tree t.expression) (arguments : Tree (t.list t.expression)) → IsRead callee → IsRead arguments → IsRead (t.Call callee arguments)
+unfolding Spells functions inner
+call_form callee arguments callee_reads arguments_reads = once (seq (under _ callee_reads) (arguments_read _ (functions arguments) (Spells arguments) arguments_reads))
+
+bare_new_form : (callee : Tree t.expression) → IsRead callee → IsRead (t.New callee t.absent)
+unfolding Spells functions inner
+bare_new_form callee callee_reads = along (sym (append-nil (functions callee))) (once (seq word_new (under _ callee_reads)))
+
+new_form : (callee : Tree t.expression) (arguments : Tree (t.list t.expression)) → IsRead callee → IsRead arguments → IsRead (t.New callee (t.present arguments))
+unfolding Spells functions inner
+new_form callee arguments callee_reads arguments_reads = once (seq word_new (seq (under _ (under _ callee_reads)) (arguments_read _ (functions arguments) (Spells arguments) arguments_reads)))
+
+super_call_form : (at : ℕ) (arguments : Tree (t.list t.expression)) → IsRead arguments → IsRead (t.SuperCall at arguments)
+unfolding Spells functions inner
+super_call_form at arguments arguments_reads = under _ (once (seq word_super (arguments_read _ (functions arguments) (Spells arguments) arguments_reads)))
+
+update_form : (at : ℕ) (up : Bool) (of : Tree t.expression) → IsRead of → IsRead (t.Update at up true of)
+unfolding Spells functions inner
+update_form at up of of_reads = under _ (once (seq (step_reads up) (under _ of_reads)))
+
+postfix_update_form : (at : ℕ) (up : Bool) (of : Tree t.expression) → IsRead of → IsRead (t.Update at up false of)
+unfolding Spells functions inner
+postfix_update_form at up of of_reads = under _ (once (behind (under _ of_reads) (under _ (step_reads up))))
+
+unary_form : (operator : UnaryOperator) (of : Tree t.expression) → IsRead of → IsRead (t.Unary operator of)
+unfolding Spells functions inner
+unary_form operator of of_reads = once (seq (plain (unary_sign operator) (unary_weighs operator)) (under _ of_reads))
+
+typeof_form : (of : Tree t.expression) → IsRead of → IsRead (t.Typeof of)
+unfolding Spells functions inner
+typeof_form of of_reads = once (seq word_typeof (under _ of_reads))
+
+void_form : (of : Tree t.expression) → IsRead of → IsRead (t.Void of)
+unfolding Spells functions inner
+void_form of of_reads = once (seq word_void (under _ of_reads))
+
+delete_form : (at : ℕ) (of : Tree t.expression) → IsRead of → IsRead (t.Delete at of)
+unfolding Spells functions inner
+delete_form at of of_reads = under _ (once (seq word_delete (under _ of_reads)))
+
+binary_form : (operator : BinaryOperator) (left right : Tree t.expression) → IsRead left → IsRead right → IsRead (t.Binary operator left right)
+unfolding Spells functions inner
+binary_form operator left right left_reads right_reads = once (seq (under _ left_reads) (seq (plain (operator_sign operator) (operator_weighs operator)) (under _ right_reads)))
+
+in_form : (left right : Tree t.expression) → IsRead left → IsRead right → IsRead (t.In left right)
+unfolding Spells functions inner
+in_form left right left_reads right_reads = once (seq (under _ left_reads) (seq word_in (under _ right_reads)))
+
+instance_of_form : (left right : Tree t.expression) → IsRead left → IsRead right → IsRead (t.InstanceOf left right)
+unfolding Spells functions inner
+instance_of_form left right left_reads right_reads = once (seq (under _ left_reads) (seq word_instanceof (under _ right_reads)))
+
+and_form : (left right : Tree t.expression) → IsRead left → IsRead right → IsRead (t.And left right)
+unfolding Spells functions inner
+and_form left right left_reads right_reads = once (seq (under _ left_reads) (seq word_and (under _ right_reads)))
+
+or_form : (left right : Tree t.expression) → IsRead left → IsRead right → IsRead (t.Or left right)
+unfolding Spells functions inner
+or_form left right left_reads right_reads = once (seq (under _ (under _ left_reads)) (seq word_or (under _ right_reads)))
+
+nullish_form : (left right : Tree t.expression) → IsRead left → IsRead right → IsRead (t.Nullish left right)
+unfolding Spells functions inner
+nullish_form left right left_reads right_reads = once (seq (under _ left_reads) (seq word_nullish (under _ right_reads)))
+
+conditional_form : (test one other : Tree t.expression) → IsRead test → IsRead one → IsRead other → IsRead (t.Conditional test one other)
+unfolding Spells functions inner
+conditional_form test one other test_reads one_reads other_reads = once (seq (under _ test_reads) (seq word_question (seq (under _ one_reads) (seq word_colon (under _ other_reads)))))
+
+assign_form : (at : ℕ) (to : Tree t.expression) (operator : Option BinaryOperator) (value : Tree t.expression) → IsRead to → IsRead value → IsRead (t.Assign at to operator value)
+unfolding Spells functions inner
+assign_form at to operator value to_reads value_reads = under _ (once (seq (under _ to_reads) (seq (assigning_reads operator) (under _ value_reads))))
+
+comma_form : (left right : Tree t.expression) → IsRead left → IsRead right → IsRead (t.Comma left right)
+unfolding Spells functions inner
+comma_form left right left_reads right_reads = once (seq left_reads (seq comma (under _ right_reads)))
+
+key_string_form : (text : Text) → IsRead (t.KeyString text)
+unfolding Spells functions inner
+key_string_form text = (one_reads _ 0 0 (λ token e. kind_weighs 0 0 token.kind (k.String text) (string_weighs text) e), one_starts _ 0 0 (λ token e. kind_weighs 0 0 token.kind (k.String text) (string_weighs text) e))
+
+key_number_form : (value : ℤ) → IsRead (t.KeyNumber value)
+unfolding Spells functions inner
+key_number_form value = (one_reads _ 0 0 (λ token e. kind_weighs 0 0 token.kind (k.Number value) (number_weighs value) e), one_starts _ 0 0 (λ token e. kind_weighs 0 0 token.kind (k.Number value) (number_weighs value) e))
+
+key_computed_form : (key : Tree t.expression) → IsRead key → IsRead (t.KeyComputed key)
+unfolding Spells functions inner
+key_computed_form key key_reads = computed_reads (under _ key_reads)
+
+bare_member_of_form : (at : ℕ) (fixed : Bool) (kind : MemberKind) (key : Tree t.key) (value : Tree (t.option t.expression)) → IsRead key → IsRead value → IsRead (t.MemberOf at fixed kind key value t.absent)
+unfolding Spells functions inner
+bare_member_of_form at fixed kind key value key_reads value_reads = λ holder. under _ (bare_member_reads holder at fixed kind key (functions value) (Spells key) (Spells value) key_reads value_reads)
+
+member_of_form : (at : ℕ) (fixed : Bool) (kind : MemberKind) (key : Tree t.key) (value : Tree (t.option t.expression)) (place : ℕ) (own : Option Identifier) (due : FunctionKind) (parameters : List Identifier) (body : Tree t.body) → IsRead key → IsRead value → IsRead body → IsRead (t.MemberOf at fixed kind key value (t.present (t.FunctionOf place own due parameters body)))
+unfolding Spells functions inner
+member_of_form at fixed kind key value place own due parameters body key_reads value_reads body_reads = λ holder. under _ (with_function_reads (Written (t.FunctionOf place own due parameters body)) holder at fixed kind key (functions value) (Spells key) (Spells value) own due parameters (Spells body) key_reads value_reads (body_reads false))
+
+function_of_form : (at : ℕ) (own : Option Identifier) (kind : FunctionKind) (parameters : List Identifier) (body : Tree t.body) → IsRead body → IsRead (t.FunctionOf at own kind parameters body)
+unfolding Spells functions inner
+function_of_form at own kind parameters body body_reads = let form = Written (t.FunctionOf at own kind parameters body) in (expression_function_reads form own kind parameters (Spells body) body_reads, statement_function_reads form own kind parameters (Spells body) body_reads, default_function_reads form own kind parameters (Spells body) body_reads)
+
+body_statements_form : (statements : Tree (t.list t.statement)) → IsRead statements → IsRead (t.BodyStatements statements)
+unfolding Spells functions inner
+body_statements_form statements statements_reads = λ arrow. braces_read (functions statements) (Spells statements) statements_reads
+
+body_expression_form : (value : Tree t.expression) → IsRead value → IsRead (t.BodyExpression value)
+unfolding Spells functions inner
+body_expression_form value value_reads = λ arrow. under _ (under _ (under _ value_reads))
+
+bare_class_of_form : (at : ℕ) (own : Option Identifier) (members : Tree (t.list t.member)) → IsRead members → IsRead (t.ClassOf at own t.absent members)
+unfolding Spells functions inner
+bare_class_of_form at own members members_reads = λ named. class_reads (writes_constructor members) (t.ClassOf at own t.absent members) (loose (seq (class_name_reads named own) (in_braces (class_members_read false (functions members) (Spells members) members_reads))))
+
+class_of_form : (at : ℕ) (own : Option Identifier) (parent : Tree t.expression) (members : Tree (t.list t.member)) → IsRead parent → IsRead members → IsRead (t.ClassOf at own (t.present parent) members)
+unfolding Spells functions inner
+class_of_form at own parent members parent_reads members_reads = λ named. class_reads (writes_constructor members) (t.ClassOf at own (t.present parent) members) (loose (seq (class_name_reads named own) (seq word_extends (seq (under _ parent_reads) (in_braces (class_members_read true (functions members) (Spells members) members_reads))))))
+
+value_form : (value : Tree t.expression) (semi : Semi) → IsRead value → IsRead (t.Value value semi)
+unfolding Spells functions inner
+value_form value semi value_reads = once (behind (under _ value_reads) (semicolon_reads may_miss semi))
+
+declare_form : (constant : Bool) (declarators : Tree (t.list t.declarator)) (semi : Semi) → IsRead declarators → IsRead (t.Declare constant declarators semi)
+unfolding Spells functions inner
+declare_form constant declarators semi declarators_reads = under _ (once (seq (declaring_word_reads constant) (behind (joined_reads (functions declarators) (Spells declarators) declarators_reads) (semicolon_reads may_miss semi))))
+
+declarator_of_form : (identifier : Identifier) (value : Tree t.expression) → IsRead value → IsRead (t.DeclaratorOf identifier (t.present value))
+unfolding Spells functions inner
+declarator_of_form identifier value value_reads = once (seq (name_reads identifier) (seq word_equals (under _ value_reads)))
+
+block_form : (statements : Tree (t.list t.statement)) → IsRead statements → IsRead (t.Block statements)
+unfolding Spells functions inner
+block_form statements statements_reads = braces_read (functions statements) (Spells statements) statements_reads
+
+bare_if_form : (test : Tree t.expression) (one : Tree t.statement) → IsRead test → IsRead one → IsRead (t.If test one t.absent)
+unfolding Spells functions inner
+bare_if_form test one test_reads one_reads = once (seq word_if (then_in_parentheses test_reads (along (sym (append-nil (functions one))) (under _ one_reads))))
+
+if_form : (test : Tree t.expression) (one other : Tree t.statement) → IsRead test → IsRead one → IsRead other → IsRead (t.If test one (t.present other))
+unfolding Spells functions inner
+if_form test one other test_reads one_reads other_reads = once (seq word_if (then_in_parentheses test_reads (seq (under _ (under _ one_reads)) (seq word_else (under _ other_reads)))))
+
+for_form : (head : Tree t.head) (test each : Tree (t.option t.expression)) (body : Tree t.statement) → IsRead head → IsRead test → IsRead each → IsRead body → IsRead (t.For head test each body)
+unfolding Spells functions inner
+for_form head test each body head_reads test_reads each_reads body_reads = once (seq word_for (seq opening_parenthesis (seq head_reads (seq written_reads (seq (maybe_reads (functions test) (Spells test) test_reads) (seq written_reads (seq (maybe_reads (functions each) (Spells each) each_reads) (seq closing_parenthesis (under _ body_reads)))))))))
+
+head_declare_form : (constant : Bool) (declarators : Tree (t.list t.declarator)) → IsRead declarators → IsRead (t.HeadDeclare constant declarators)
+unfolding Spells functions inner
+head_declare_form constant declarators declarators_reads = loose (under _ (seq (declaring_word_reads constant) (joined_reads (functions declarators) (Spells declarators) declarators_reads)))
+
+while_form : (test : Tree t.expression) (body : Tree t.statement) → IsRead test → IsRead body → IsRead (t.While test body)
+unfolding Spells functions inner
+while_form test body test_reads body_reads = once (seq word_while (then_in_parentheses test_reads (under _ body_reads)))
+
+do_while_form : (body : Tree t.statement) (test : Tree t.expression) (semi : Semi) → IsRead body → IsRead test → IsRead (t.DoWhile body test semi)
+unfolding Spells functions inner
+do_while_form body test semi body_reads test_reads = once (seq word_do (seq (under _ body_reads) (seq word_while (along (append-nil (functions test)) (then_in_parentheses test_reads (semicolon_reads may_miss_after_do semi))))))
+
+break_form : (at : ℕ) (semi : Semi) → IsRead (t.Break at semi)
+unfolding Spells functions inner
+break_form at semi = under _ (once (seq word_break (semicolon_reads may_miss_bare semi)))
+
+continue_form : (at : ℕ) (semi : Semi) → IsRead (t.Continue at semi)
+unfolding Spells functions inner
+continue_form at semi = under _ (once (seq word_continue (semicolon_reads may_miss_bare semi)))
+
+bare_return_form : (at : ℕ) (semi : Semi) → IsRead (t.Return at t.absent semi)
+unfolding Spells functions inner
+bare_return_form at semi = under _ (once (seq word_return (semicolon_reads may_miss_bare semi)))
+
+return_form : (at : ℕ) (value : Tree t.expression) (semi : Semi) → IsRead value → IsRead (t.Return at (t.present value) semi)
+unfolding Spells functions inner
+return_form at value semi value_reads = under _ (once (seq word_return (behind (under _ value_reads) (semicolon_reads may_miss semi))))
+
+throw_form : (value : Tree t.expression) (semi : Semi) → IsRead value → IsRead (t.Throw value semi)
+unfolding Spells functions inner
+throw_form value semi value_reads = once (seq word_throw (behind (under _ value_reads) (semicolon_reads may_miss semi)))
+
+try_form : (block : Tree (t.list t.statement)) (caught : Option Identifier) (catch finally : Tree (t.option (t.list t.statement))) → IsRead block → IsRead catch → IsRead finally → IsRead (t.Try block caught catch finally)
+unfolding Spells functions inner
+try_form block caught catch finally block_reads catch_reads finally_reads = under _ (once (seq word_try (seq (braces_read (functions block) (Spells block) block_reads) (seq (guard_reads (loose (seq word_catch (catch_name_reads caught))) (functions catch) (Spells catch) catch_reads) (guard_reads (loose word_finally) (functions finally) (Spells finally) finally_reads)))))
+
+switch_form : (value : Tree t.expression) (cases : Tree (t.list t.case)) → IsRead value → IsRead cases → IsRead (t.Switch value cases)
+unfolding Spells functions inner
+switch_form value cases value_reads cases_reads = under _ (once (seq word_switch (then_in_parentheses value_reads (braces_read (functions cases) (Spells cases) cases_reads))))
+
+bare_case_of_form : (body : Tree (t.list t.statement)) → IsRead body → IsRead (t.CaseOf t.absent body)
+unfolding Spells functions inner
+bare_case_of_form body body_reads = once (seq word_default (seq word_colon (sequence_reads (functions body) (Spells body) body_reads)))
+
+case_of_form : (test : Tree t.expression) (body : Tree (t.list t.statement)) → IsRead test → IsRead body → IsRead (t.CaseOf (t.present test) body)
+unfolding Spells functions inner
+case_of_form test body test_reads body_reads = once (seq word_case (seq test_reads (seq word_colon (sequence_reads (functions body) (Spells body) body_reads))))
+
+default_function_form : (function : Tree t.function) → IsRead function → IsRead (t.DefaultFunction function)
+unfolding Spells functions inner
+default_function_form function function_reads = λ mark. under _ function_reads.2
+
+default_class_form : (class : Tree t.class) → IsRead class → IsRead (t.DefaultClass class)
+unfolding Spells functions inner
+default_class_form class class_reads = λ mark. under _ (class_reads false)
+
+default_value_form : (value : Tree t.expression) → IsRead value → IsRead (t.DefaultValue value)
+unfolding Spells functions inner
+default_value_form value value_reads = λ mark. once (behind (under _ (under _ value_reads)) (semicolon_reads may_miss mark))
+
+import_form : (from : Text) (list : List Pair) (semi : Semi) → IsRead (t.Import from list semi)
+unfolding Spells functions inner
+import_form from list semi = once (seq word_import (seq (import_list_reads list) (seq (module_name_reads from) (semicolon_reads may_miss semi))))
+
+export_from_form : (from : Text) (list : List Pair) (semi : Semi) → IsRead (t.ExportFrom from list semi)
+unfolding Spells functions inner
+export_from_form from list semi = once (seq word_export (seq (braced_reads s.exported_from exported_from_reads list) (seq (the_name_reads "from") (seq (module_name_reads from) (semicolon_reads may_miss semi)))))
+
+export_names_form : (list : List Pair) (semi : Semi) → IsRead (t.ExportNames list semi)
+unfolding Spells functions inner
+export_names_form list semi = once (seq word_export (seq (braced_reads s.exported exported_reads list) (semicolon_reads may_miss_after_export semi)))
+
+export_declaration_form : (statement : Tree t.statement) → IsRead statement → IsRead (t.ExportDeclaration statement)
+unfolding Spells functions inner
+export_declaration_form statement statement_reads = once (seq word_export (under _ statement_reads))
+
+export_default_form : (at : ℕ) (value : Tree t.default) (semi : Semi) → IsRead value → IsRead (t.ExportDefault at value semi)
+unfolding Spells functions inner
+export_default_form at value semi value_reads = once (seq word_export (under _ (seq word_default (value_reads semi))))
 
 pub reads : {s : t.Sort} → (tree : Tree s) → Claim s (functions tree) (Spells tree)
 unfolding Spells functions inner
@@ -719,83 +296,81 @@ reads t.Null = word_null
 reads t.True = word_true
 reads t.False = word_false
 reads (t.Name identifier) = name_reads identifier
-reads (t.Number value) = one_reads _ 0 0 (λ token e. kind_weighs 0 0 token.kind (k.Number value) (number_weighs value) e)
-reads (t.String text) = one_reads _ 0 0 (λ token e. kind_weighs 0 0 token.kind (k.String text) (string_weighs text) e)
-reads (t.Template texts values) = pieces_read true texts (functions values) (Spells values) (reads values)
-reads (t.Array items) = in_brackets (under _ (separated_read (functions items) (Spells items) (reads items)))
-reads (t.Object members) = in_braces (object_members_read (functions members) (Spells members) (reads members))
+reads (t.Number value) = number_form value
+reads (t.String text) = string_form text
+reads (t.Template texts values) = template_form texts values (reads values)
+reads (t.Array items) = array_form items (reads items)
+reads (t.Object members) = object_form members (reads members)
 reads (t.Function function) = (reads function).0
 reads (t.Class class) = reads class false
 reads (t.Paren of) = in_parentheses (reads of)
-reads (t.Dot of text) = once (behind (under _ (reads of)) (seq word_point (property_reads text)))
-reads (t.Index of key) = once (seq (under _ (reads of)) (in_brackets (reads key)))
-reads (t.SuperDot at text) = under _ (once (seq word_super (seq word_point (property_reads text))))
-reads (t.SuperIndex at key) = under _ (once (seq word_super (in_brackets (reads key))))
-reads (t.Call callee arguments) = once (seq (under _ (reads callee)) (arguments_read _ (functions arguments) (Spells arguments) (reads arguments)))
-reads (t.New callee t.absent) = along (sym (append-nil (functions callee))) (once (seq word_new (under _ (reads callee))))
-reads (t.New callee (t.present arguments)) = once (seq word_new (seq (under _ (under _ (reads callee))) (arguments_read _ (functions arguments) (Spells arguments) (reads arguments))))
-reads (t.SuperCall at arguments) = under _ (once (seq word_super (arguments_read _ (functions arguments) (Spells arguments) (reads arguments))))
-reads (t.Update at up true of) = under _ (once (seq (step_reads up) (under _ (reads of))))
-reads (t.Update at up false of) = under _ (once (behind (under _ (reads of)) (under _ (step_reads up))))
-reads (t.Unary operator of) = once (seq (plain (unary_sign operator) (unary_weighs operator)) (under _ (reads of)))
-reads (t.Typeof of) = once (seq word_typeof (under _ (reads of)))
-reads (t.Void of) = once (seq word_void (under _ (reads of)))
-reads (t.Delete at of) = under _ (once (seq word_delete (under _ (reads of))))
-reads (t.Binary operator left right) = once (seq (under _ (reads left)) (seq (plain (operator_sign operator) (operator_weighs operator)) (under _ (reads right))))
-reads (t.In left right) = once (seq (under _ (reads left)) (seq word_in (under _ (reads right))))
-reads (t.InstanceOf left right) = once (seq (under _ (reads left)) (seq word_instanceof (under _ (reads right))))
-reads (t.And left right) = once (seq (under _ (reads left)) (seq word_and (under _ (reads right))))
-reads (t.Or left right) = once (seq (under _ (under _ (reads left))) (seq word_or (under _ (reads right))))
-reads (t.Nullish left right) = once (seq (under _ (reads left)) (seq word_nullish (under _ (reads right))))
-reads (t.Conditional test one other) = once (seq (under _ (reads test)) (seq word_question (seq (under _ (reads one)) (seq word_colon (under _ (reads other))))))
-reads (t.Assign at to operator value) = under _ (once (seq (under _ (reads to)) (seq (assigning_reads operator) (under _ (reads value)))))
-reads (t.Comma left right) = once (seq (reads left) (seq comma (under _ (reads right))))
+reads (t.Dot of text) = dot_form of text (reads of)
+reads (t.Index of key) = index_form of key (reads of) (reads key)
+reads (t.SuperDot at text) = super_dot_form at text
+reads (t.SuperIndex at key) = super_index_form at key (reads key)
+reads (t.Call callee arguments) = call_form callee arguments (reads callee) (reads arguments)
+reads (t.New callee t.absent) = bare_new_form callee (reads callee)
+reads (t.New callee (t.present arguments)) = new_form callee arguments (reads callee) (reads arguments)
+reads (t.SuperCall at arguments) = super_call_form at arguments (reads arguments)
+reads (t.Update at up true of) = update_form at up of (reads of)
+reads (t.Update at up false of) = postfix_update_form at up of (reads of)
+reads (t.Unary operator of) = unary_form operator of (reads of)
+reads (t.Typeof of) = typeof_form of (reads of)
+reads (t.Void of) = void_form of (reads of)
+reads (t.Delete at of) = delete_form at of (reads of)
+reads (t.Binary operator left right) = binary_form operator left right (reads left) (reads right)
+reads (t.In left right) = in_form left right (reads left) (reads right)
+reads (t.InstanceOf left right) = instance_of_form left right (reads left) (reads right)
+reads (t.And left right) = and_form left right (reads left) (reads right)
+reads (t.Or left right) = or_form left right (reads left) (reads right)
+reads (t.Nullish left right) = nullish_form left right (reads left) (reads right)
+reads (t.Conditional test one other) = conditional_form test one other (reads test) (reads one) (reads other)
+reads (t.Assign at to operator value) = assign_form at to operator value (reads to) (reads value)
+reads (t.Comma left right) = comma_form left right (reads left) (reads right)
 reads (t.KeyWord text) = (property_reads text, property_starts text)
-reads (t.KeyString text) = (one_reads _ 0 0 (λ token e. kind_weighs 0 0 token.kind (k.String text) (string_weighs text) e), one_starts _ 0 0 (λ token e. kind_weighs 0 0 token.kind (k.String text) (string_weighs text) e))
-reads (t.KeyNumber value) = (one_reads _ 0 0 (λ token e. kind_weighs 0 0 token.kind (k.Number value) (number_weighs value) e), one_starts _ 0 0 (λ token e. kind_weighs 0 0 token.kind (k.Number value) (number_weighs value) e))
-reads (t.KeyComputed key) = computed_reads (under _ (reads key))
-reads (t.MemberOf at fixed kind key value t.absent) = λ holder. under _ (bare_member_reads holder at fixed kind key (functions value) (Spells key) (Spells value) (reads key) (reads value))
-reads (t.MemberOf at fixed kind key value (t.present (t.FunctionOf place own due parameters body))) = λ holder. under _ (with_function_reads (Written (t.FunctionOf place own due parameters body)) holder at fixed kind key (functions value) (Spells key) (Spells value) own due parameters (Spells body) (reads key) (reads value) (reads body false))
-reads (t.FunctionOf at own kind parameters body) =
-    let form = Written (t.FunctionOf at own kind parameters body) in
-    (expression_function_reads form own kind parameters (Spells body) (reads body), statement_function_reads form own kind parameters (Spells body) (reads body), default_function_reads form own kind parameters (Spells body) (reads body))
-reads (t.BodyStatements statements) = λ arrow. braces_read (functions statements) (Spells statements) (reads statements)
-reads (t.BodyExpression value) = λ arrow. under _ (under _ (under _ (reads value)))
-reads (t.ClassOf at own t.absent members) = λ named. class_reads (writes_constructor members) (t.ClassOf at own t.absent members) (loose (seq (class_name_reads named own) (in_braces (class_members_read false (functions members) (Spells members) (reads members)))))
-reads (t.ClassOf at own (t.present parent) members) = λ named. class_reads (writes_constructor members) (t.ClassOf at own (t.present parent) members) (loose (seq (class_name_reads named own) (seq word_extends (seq (under _ (reads parent)) (in_braces (class_members_read true (functions members) (Spells members) (reads members)))))))
+reads (t.KeyString text) = key_string_form text
+reads (t.KeyNumber value) = key_number_form value
+reads (t.KeyComputed key) = key_computed_form key (reads key)
+reads (t.MemberOf at fixed kind key value t.absent) = bare_member_of_form at fixed kind key value (reads key) (reads value)
+reads (t.MemberOf at fixed kind key value (t.present (t.FunctionOf place own due parameters body))) = member_of_form at fixed kind key value place own due parameters body (reads key) (reads value) (reads body)
+reads (t.FunctionOf at own kind parameters body) = function_of_form at own kind parameters body (reads body)
+reads (t.BodyStatements statements) = body_statements_form statements (reads statements)
+reads (t.BodyExpression value) = body_expression_form value (reads value)
+reads (t.ClassOf at own t.absent members) = bare_class_of_form at own members (reads members)
+reads (t.ClassOf at own (t.present parent) members) = class_of_form at own parent members (reads parent) (reads members)
 reads t.Empty = written_reads
-reads (t.Value value semi) = once (behind (under _ (reads value)) (semicolon_reads may_miss semi))
-reads (t.Declare constant declarators semi) = under _ (once (seq (declaring_word_reads constant) (behind (joined_reads (functions declarators) (Spells declarators) (reads declarators)) (semicolon_reads may_miss semi))))
+reads (t.Value value semi) = value_form value semi (reads value)
+reads (t.Declare constant declarators semi) = declare_form constant declarators semi (reads declarators)
 reads (t.DeclaratorOf identifier t.absent) = name_reads identifier
-reads (t.DeclaratorOf identifier (t.present value)) = once (seq (name_reads identifier) (seq word_equals (under _ (reads value))))
+reads (t.DeclaratorOf identifier (t.present value)) = declarator_of_form identifier value (reads value)
 reads (t.FunctionStatement function) = (reads function).1
 reads (t.ClassStatement class) = reads class true
-reads (t.Block statements) = braces_read (functions statements) (Spells statements) (reads statements)
-reads (t.If test one t.absent) = once (seq word_if (then_in_parentheses (reads test) (along (sym (append-nil (functions one))) (under _ (reads one)))))
-reads (t.If test one (t.present other)) = once (seq word_if (then_in_parentheses (reads test) (seq (under _ (under _ (reads one))) (seq word_else (under _ (reads other))))))
-reads (t.For head test each body) = once (seq word_for (seq opening_parenthesis (seq (reads head) (seq written_reads (seq (maybe_reads (functions test) (Spells test) (reads test)) (seq written_reads (seq (maybe_reads (functions each) (Spells each) (reads each)) (seq closing_parenthesis (under _ (reads body))))))))))
+reads (t.Block statements) = block_form statements (reads statements)
+reads (t.If test one t.absent) = bare_if_form test one (reads test) (reads one)
+reads (t.If test one (t.present other)) = if_form test one other (reads test) (reads one) (reads other)
+reads (t.For head test each body) = for_form head test each body (reads head) (reads test) (reads each) (reads body)
 reads t.HeadNothing = nothing_reads
 reads (t.HeadValue value) = loose (reads value)
-reads (t.HeadDeclare constant declarators) = loose (under _ (seq (declaring_word_reads constant) (joined_reads (functions declarators) (Spells declarators) (reads declarators))))
-reads (t.While test body) = once (seq word_while (then_in_parentheses (reads test) (under _ (reads body))))
-reads (t.DoWhile body test semi) = once (seq word_do (seq (under _ (reads body)) (seq word_while (along (append-nil (functions test)) (then_in_parentheses (reads test) (semicolon_reads may_miss_after_do semi))))))
-reads (t.Break at semi) = under _ (once (seq word_break (semicolon_reads may_miss_bare semi)))
-reads (t.Continue at semi) = under _ (once (seq word_continue (semicolon_reads may_miss_bare semi)))
-reads (t.Return at t.absent semi) = under _ (once (seq word_return (semicolon_reads may_miss_bare semi)))
-reads (t.Return at (t.present value) semi) = under _ (once (seq word_return (behind (under _ (reads value)) (semicolon_reads may_miss semi))))
-reads (t.Throw value semi) = once (seq word_throw (behind (under _ (reads value)) (semicolon_reads may_miss semi)))
-reads (t.Try block caught catch finally) = under _ (once (seq word_try (seq (braces_read (functions block) (Spells block) (reads block)) (seq (guard_reads (loose (seq word_catch (catch_name_reads caught))) (functions catch) (Spells catch) (reads catch)) (guard_reads (loose word_finally) (functions finally) (Spells finally) (reads finally))))))
-reads (t.Switch value cases) = under _ (once (seq word_switch (then_in_parentheses (reads value) (braces_read (functions cases) (Spells cases) (reads cases)))))
-reads (t.CaseOf t.absent body) = once (seq word_default (seq word_colon (sequence_reads (functions body) (Spells body) (reads body))))
-reads (t.CaseOf (t.present test) body) = once (seq word_case (seq (reads test) (seq word_colon (sequence_reads (functions body) (Spells body) (reads body)))))
-reads (t.DefaultFunction function) = λ mark. under _ (reads function).2
-reads (t.DefaultClass class) = λ mark. under _ (reads class false)
-reads (t.DefaultValue value) = λ mark. once (behind (under _ (under _ (reads value))) (semicolon_reads may_miss mark))
-reads (t.Import from list semi) = once (seq word_import (seq (import_list_reads list) (seq (module_name_reads from) (semicolon_reads may_miss semi))))
-reads (t.ExportFrom from list semi) = once (seq word_export (seq (braced_reads s.exported_from exported_from_reads list) (seq (the_name_reads "from") (seq (module_name_reads from) (semicolon_reads may_miss semi)))))
-reads (t.ExportNames list semi) = once (seq word_export (seq (braced_reads s.exported exported_reads list) (semicolon_reads may_miss_after_export semi)))
-reads (t.ExportDeclaration statement) = once (seq word_export (under _ (reads statement)))
-reads (t.ExportDefault at value semi) = once (seq word_export (under _ (seq word_default (reads value semi))))
+reads (t.HeadDeclare constant declarators) = head_declare_form constant declarators (reads declarators)
+reads (t.While test body) = while_form test body (reads test) (reads body)
+reads (t.DoWhile body test semi) = do_while_form body test semi (reads body) (reads test)
+reads (t.Break at semi) = break_form at semi
+reads (t.Continue at semi) = continue_form at semi
+reads (t.Return at t.absent semi) = bare_return_form at semi
+reads (t.Return at (t.present value) semi) = return_form at value semi (reads value)
+reads (t.Throw value semi) = throw_form value semi (reads value)
+reads (t.Try block caught catch finally) = try_form block caught catch finally (reads block) (reads catch) (reads finally)
+reads (t.Switch value cases) = switch_form value cases (reads value) (reads cases)
+reads (t.CaseOf t.absent body) = bare_case_of_form body (reads body)
+reads (t.CaseOf (t.present test) body) = case_of_form test body (reads test) (reads body)
+reads (t.DefaultFunction function) = default_function_form function (reads function)
+reads (t.DefaultClass class) = default_class_form class (reads class)
+reads (t.DefaultValue value) = default_value_form value (reads value)
+reads (t.Import from list semi) = import_form from list semi
+reads (t.ExportFrom from list semi) = export_from_form from list semi
+reads (t.ExportNames list semi) = export_names_form list semi
+reads (t.ExportDeclaration statement) = export_declaration_form statement (reads statement)
+reads (t.ExportDefault at value semi) = export_default_form at value semi (reads value)
 reads (t.Plain statement) = reads statement
 
 -- a statement, and so each item of a module, takes at least one token

@@ -4,7 +4,7 @@ ghost use Rattle.es_model.specs.declared.faults.LexFault.TheVariants.{Memory};
 use std::alloc::AllocError;
 
 /// Why a text is no list of tokens, with the place of the byte that it names, from 0.
-#[derive(Clone, Copy, Debug, PartialEq, Eq)]
+#[derive(Clone, Copy, Debug)]
 pub enum LexFault {
     /// The first byte that belongs to no well-formed sequence of UTF-8. It comes before all
     /// others; of these the one that a reader meets first comes.
@@ -38,7 +38,7 @@ impl From<AllocError> for LexFault {
 /// The first early rule that a module breaks (ECMA-262, 13 to 16, and the language's own rules),
 /// with the place of the byte that it names, from 0: where the later of two things, or the thing
 /// itself, begins.
-#[derive(Clone, Copy, Debug, PartialEq, Eq)]
+#[derive(Clone, Copy)]
 pub enum EarlyFault {
     /// Two bindings of one name in one scope: the later name.
     DuplicateName(u32),

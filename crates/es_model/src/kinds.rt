@@ -1,5 +1,5 @@
 /// Whether a semicolon stands in the text or is missing (own rule on where it may be).
-#[derive(Clone, Copy, Debug, PartialEq, Eq)]
+#[derive(Clone, Copy, PartialEq, Eq)]
 pub enum Semi {
     Written,
     Missing,
@@ -7,7 +7,7 @@ pub enum Semi {
 
 /// What kind of function a function is. The last two are the constructors of a class: `Derived`
 /// where the class has a parent.
-#[derive(Clone, Copy, Debug, PartialEq, Eq)]
+#[derive(Clone, Copy, PartialEq, Eq)]
 pub enum FunctionKind {
     Plain,
     Arrow,
@@ -20,7 +20,7 @@ pub enum FunctionKind {
 
 /// What kind of member of a class or an object literal a member is. `Value` is `key: value` and
 /// `Short` a name alone; these two stand in object literals only.
-#[derive(Clone, Copy, Debug, PartialEq, Eq)]
+#[derive(Clone, Copy, PartialEq, Eq)]
 pub enum MemberKind {
     Value,
     Short,
@@ -30,7 +30,7 @@ pub enum MemberKind {
 }
 
 /// `!`, `-`, `+` and `~`.
-#[derive(Clone, Copy, Debug, PartialEq, Eq)]
+#[derive(Clone, Copy, PartialEq, Eq)]
 pub enum UnaryOperator {
     Not,
     Negate,
@@ -39,7 +39,7 @@ pub enum UnaryOperator {
 }
 
 /// `+ - * / % ** & | ^ << >> >>> < > <= >= == != === !==`, in this order.
-#[derive(Clone, Copy, Debug, PartialEq, Eq)]
+#[derive(Clone, Copy, PartialEq, Eq)]
 pub enum BinaryOperator {
     Add,
     Subtract,

@@ -23,7 +23,7 @@ impl<T> Model for TreeList<T> {
     ghost view = { λ l. l.items.items };
 }
 
-impl<T: Drop> TreeList<T> {
+impl<T> TreeList<T> {
     /// The empty list. It takes no memory.
     pub fn new(alloc: Global) -> TreeList<T>
         ensures { result ≡ [] }
@@ -33,6 +33,15 @@ impl<T: Drop> TreeList<T> {
         }
     }
 
+    /// The items in order.
+    pub fn as_slice(&self) -> &[T]
+        ensures { result.now ≡ self.now }
+    {
+        self.items.as_slice()
+    }
+}
+
+impl<T: Drop> TreeList<T> {
     /// Adds an item at the end. The one error is want of memory: it leaves the list as it was, and the
     /// item is dropped.
     pub fn push(&mut self, item: T) -> Result<(), AllocError>
@@ -41,12 +50,5 @@ impl<T: Drop> TreeList<T> {
     {
         self.items.push(item)?;
         Ok(())
-    }
-
-    /// The items in order.
-    pub fn as_slice(&self) -> &[T]
-        ensures { result.now ≡ self.now }
-    {
-        self.items.as_slice()
     }
 }

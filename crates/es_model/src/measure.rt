@@ -141,20 +141,26 @@ fn of_expression(expression: &Expression) -> Counts
     ensures { result ≡ counted expression.now }
 {
     match &expression.form {
-        ExpressionForm::Template { values, .. } => of_expressions(values.as_slice()).inside(),
-        ExpressionForm::Array(values) => of_expressions(values.as_slice()).inside(),
-        ExpressionForm::SuperCall { arguments, .. } => {
-            of_expressions(arguments.as_slice()).inside()
-        }
+        ExpressionForm::Template { values, .. }
+        | ExpressionForm::Array(values)
+        | ExpressionForm::SuperCall {
+            arguments: values,
+            ..
+        } => of_expressions(values.as_slice()).inside(),
         ExpressionForm::Object(members) => of_members(members.as_slice()).inside(),
         ExpressionForm::Function(function) => of_function(function).inside(),
         ExpressionForm::Class(class) => of_class(class).inside(),
-        ExpressionForm::Call { callee, arguments } => of_expression(callee)
+        ExpressionForm::Call { callee, arguments }
+        | ExpressionForm::New {
+            callee,
+            arguments: Some(arguments),
+        } => of_expression(callee)
             .beside(of_expressions(arguments.as_slice()))
             .inside(),
-        ExpressionForm::New { callee, arguments } => of_expression(callee)
-            .beside(of_arguments(arguments))
-            .inside(),
+        ExpressionForm::New {
+            callee,
+            arguments: None,
+        } => of_expression(callee).beside(Counts::none()).inside(),
         ExpressionForm::Conditional { test, yes, no } => of_expression(test)
             .beside(of_expression(yes).beside(of_expression(no)))
             .inside(),
@@ -206,16 +212,6 @@ fn of_expressions(expressions: &[Expression]) -> Counts
 }
 
 #[cycle(counts)]
-fn of_arguments(arguments: &Option<TreeList<Expression>>) -> Counts
-    ensures { result ≡ counted (optional_list arguments.now) }
-{
-    match arguments {
-        Some(values) => of_expressions(values.as_slice()),
-        None => Counts::none(),
-    }
-}
-
-#[cycle(counts)]
 fn of_optional(expression: &Option<Box<Expression>>) -> Counts
     ensures { result ≡ counted (optional expression.now) }
 {
@@ -230,8 +226,9 @@ fn of_statement(statement: &Statement) -> Counts
     ensures { result ≡ counted statement.now }
 {
     match &statement.form {
-        StatementForm::Value { value, .. } => of_expression(value).inside(),
-        StatementForm::Throw { value, .. } => of_expression(value).inside(),
+        StatementForm::Value { value, .. } | StatementForm::Throw { value, .. } => {
+            of_expression(value).inside()
+        }
         StatementForm::Declare { names, .. } => of_declarators(names.as_slice()).inside(),
         StatementForm::Function(function) => of_function(function).inside(),
         StatementForm::Class(class) => of_class(class).inside(),
@@ -368,18 +365,11 @@ fn of_member(member: &Member) -> Counts
     ensures { result ≡ counted (member_of member.now) }
 {
     let value = of_optional(&member.value);
-    let function = of_optional_function(&member.function);
-    of_key(&member.key).beside(value.beside(function))
-}
-
-#[cycle(counts)]
-fn of_optional_function(function: &Option<Box<Function>>) -> Counts
-    ensures { result ≡ counted (optional_function function.now) }
-{
-    match function {
+    let function = match &member.function {
         Some(function) => of_function(function),
         None => Counts::none(),
-    }
+    };
+    of_key(&member.key).beside(value.beside(function))
 }
 
 #[cycle(counts)]
@@ -409,16 +399,9 @@ fn of_declarators(names: &[Declarator]) -> Counts
 {
     let mut counts = Counts::none();
     for name in names {
-        counts = counts.beside(of_declarator(name));
+        counts = counts.beside(of_optional(&name.value));
     }
     counts
-}
-
-#[cycle(counts)]
-fn of_declarator(name: &Declarator) -> Counts
-    ensures { result ≡ counted (declarator_of name.now) }
-{
-    of_optional(&name.value)
 }
 
 #[cycle(counts)]
@@ -427,14 +410,8 @@ fn of_cases(cases: &[Case]) -> Counts
 {
     let mut counts = Counts::none();
     for case in cases {
-        counts = counts.beside(of_case(case));
+        let body = of_statements(case.body.as_slice());
+        counts = counts.beside(of_optional(&case.test).beside(body));
     }
     counts
-}
-
-#[cycle(counts)]
-fn of_case(case: &Case) -> Counts
-    ensures { result ≡ counted (case_of case.now) }
-{
-    of_optional(&case.test).beside(of_statements(case.body.as_slice()))
 }

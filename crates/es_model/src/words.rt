@@ -7,7 +7,7 @@ use js_value::Case;
 use std::marker::Model;
 
 // The list of keywords ascends, so that a keyword's row is its place.
-const KEYWORDS: [&'static str; 46] = [
+const KEYWORDS: &'static [&'static str; 46] = &[
     "await",
     "break",
     "case",
@@ -57,7 +57,7 @@ const KEYWORDS: [&'static str; 46] = [
 ];
 
 // In ascending order.
-const SIGNS: [&'static str; 52] = [
+const SIGNS: &'static [&'static str; 52] = &[
     "!", "!=", "!==", "%", "%=", "&", "&&", "&=", "(", ")", "*", "**", "**=", "*=", "+", "++",
     "+=", ",", "-", "--", "-=", ".", "/", "/=", ":", ";", "<", "<<", "<<=", "<=", "=", "==", "===",
     "=>", ">", ">=", ">>", ">>=", ">>>", ">>>=", "?", "??", "[", "]", "^", "^=", "{", "|", "|=",
@@ -148,11 +148,11 @@ pub fn sign_text(place: u8) -> &'static str
 fn keyword_table() -> Case<46>
     ensures { result ≡ keywords }
 {
-    Case::new(KEYWORDS)
+    Case::new(*KEYWORDS)
 }
 
 fn sign_table() -> Case<52>
     ensures { result ≡ ascending_signs }
 {
-    Case::new(SIGNS)
+    Case::new(*SIGNS)
 }

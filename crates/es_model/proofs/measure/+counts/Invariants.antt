@@ -1,7 +1,7 @@
 use Rattle.std.proofs.Common.{◌≡◌, ◌+◌, ◌*◌, map, take}
 use Rattle.es_model.specs.Tree.{listed, tree_size}
 use Rattle.es_model.specs.Counted.{counted}
-use Rattle.es_model.specs.View.{expression_of, statement_of, optional, optional_list, optional_function, function_of, class_of, member_of, key_of, head_of, declarator_of, case_of}
+use Rattle.es_model.specs.View.{expression_of, statement_of, optional, optional_list, function_of, class_of, member_of, key_of, head_of, declarator_of, case_of}
 use Rattle.es_model.proofs.measure.+counts.Given as goal
 
 abbrev pub invariant-of_expressions-loop-expression : goal.invariant-of_expressions-loop-expression
@@ -32,9 +32,6 @@ decreases-of_expression l = 2 * tree_size l.expression.now + 1
 abbrev pub decreases-of_expressions : goal.decreases-of_expressions
 decreases-of_expressions l = 2 * tree_size (listed l.expressions.now)
 
-abbrev pub decreases-of_arguments : goal.decreases-of_arguments
-decreases-of_arguments l = 2 * tree_size (optional_list l.arguments.now)
-
 abbrev pub decreases-of_optional : goal.decreases-of_optional
 decreases-of_optional l = 2 * tree_size (optional l.expression.now)
 
@@ -62,9 +59,6 @@ decreases-of_members l = 2 * tree_size (listed (map member_of l.members.now))
 abbrev pub decreases-of_member : goal.decreases-of_member
 decreases-of_member l = 2 * tree_size (member_of l.member.now)
 
-abbrev pub decreases-of_optional_function : goal.decreases-of_optional_function
-decreases-of_optional_function l = 2 * tree_size (optional_function l.function.now)
-
 abbrev pub decreases-of_key : goal.decreases-of_key
 decreases-of_key l = 2 * tree_size (key_of l.key.now)
 
@@ -76,9 +70,3 @@ decreases-of_declarators l = 2 * tree_size (listed (map declarator_of l.names.no
 
 abbrev pub decreases-of_cases : goal.decreases-of_cases
 decreases-of_cases l = 2 * tree_size (listed (map case_of l.cases.now))
-
-abbrev pub decreases-of_declarator : goal.decreases-of_declarator
-decreases-of_declarator l = 2 * tree_size (declarator_of l.name.now)
-
-abbrev pub decreases-of_case : goal.decreases-of_case
-decreases-of_case l = 2 * tree_size (case_of l.case.now)
