@@ -20,8 +20,8 @@ use crate::operands::operand;
 use crate::puts::{open_form, put};
 use es_model::{Statement, StatementForm, Token};
 use parser_forms::{
-    Control, DeclareRole, Frame, ItemDue, ItemFrame, Jump, ListRole, MemberDue, Opening, Role,
-    Stack, StatementDue, StatementFrame, Word, bare, lose, no_declarators, no_statements,
+    Control, DeclareRole, Frame, ItemDue, ItemFrame, Jump, ListRole, Lose, MemberDue, Opening,
+    Role, Stack, StatementDue, StatementFrame, Word, bare, no_declarators, no_statements,
     word_of_kind,
 };
 use std::alloc::{AllocError, Global};
@@ -99,7 +99,7 @@ fn item_begins(stack: &Stack<Frame>, due: ItemDue) -> Control
     if in_module(stack) {
         Control::Item(due)
     } else {
-        lose(due);
+        due.lose();
         Control::Fail
     }
 }
@@ -112,7 +112,7 @@ fn value_begins(
 ) -> Result<Control, AllocError>
     ensures { IfOk result (λ made. Shows (b.operand (f.Statement s.Value ∷ stack.old) token.now) made stack.new) }
 {
-    stack.push(Frame::Statement(StatementFrame::Value))?;
+    stack.open(Frame::Statement(StatementFrame::Value))?;
     operand(alloc, stack, token)
 }
 

@@ -16,9 +16,9 @@ use crate::begins::begin;
 use crate::puts::{Placed, open_form};
 use es_model::{Expression, Statement, Token};
 use parser_forms::{
-    Control, Frame, ItemFrame, ItemTree, Items, Kept, ListRole, Stack, StatementDue,
+    Control, Frame, ItemFrame, ItemTree, Items, Kept, ListRole, Lose, Stack, StatementDue,
     StatementFrame, Statements, Word, and_item, and_statement, choice, exported_item, for_loop,
-    lose, plain_item, while_loop, word_of_kind,
+    plain_item, while_loop, word_of_kind,
 };
 use std::alloc::{AllocError, Global};
 
@@ -32,7 +32,7 @@ fn module_with(
     ensures { IfOk result (λ c. Shows (b.begin (f.Item (n.Module (and_then items item)) ∷ stack.old) token.now) c stack.new) }
 {
     let items = and_item(items, item)?;
-    stack.push(Frame::Item(ItemFrame::Module { items }))?;
+    stack.open(Frame::Item(ItemFrame::Module { items }))?;
     begin(alloc, stack, token)
 }
 
@@ -50,11 +50,12 @@ pub fn close_item(
             module_with(alloc, stack, items, item, token)
         }
         Some(other) => {
-            lose((other, item));
+            other.lose();
+            item.lose();
             Ok(Control::Fail)
         }
         None => {
-            lose(item);
+            item.lose();
             Ok(Control::Fail)
         }
     }
@@ -70,9 +71,9 @@ fn list_with(
     ensures { IfOk result (λ done. stack.new ≡ f.Statement (s.List role (and_then statements line)) ∷ stack.old) }
 {
     match and_statement(statements, line) {
-        Ok(statements) => stack.push(Frame::Statement(StatementFrame::List { role, statements })),
+        Ok(statements) => stack.open(Frame::Statement(StatementFrame::List { role, statements })),
         Err(error) => {
-            lose(role);
+            role.lose();
             Err(error)
         }
     }
@@ -119,7 +120,7 @@ fn close_in_do(stack: &Stack<Frame>, line: Kept<Statement>, word: Word) -> Contr
     match word {
         Word::While => Control::StatementPart(StatementDue::DoOpen { body: line }),
         _ => {
-            lose(line);
+            line.lose();
             Control::Fail
         }
     }
@@ -152,7 +153,8 @@ fn close_in_statement(
             word_of_kind(&token.kind),
         ))),
         other => {
-            lose((other, line));
+            other.lose();
+            line.lose();
             Ok(Placed::Stands(Control::Fail))
         }
     }
@@ -177,7 +179,8 @@ fn close_in_item(
             Ok(Placed::Stands(close_item(alloc, stack, item, token)?))
         }
         other => {
-            lose((other, line));
+            other.lose();
+            line.lose();
             Ok(Placed::Stands(Control::Fail))
         }
     }
@@ -196,7 +199,8 @@ fn close_in(
         Frame::Statement(frame) => close_in_statement(alloc, stack, frame, line, token),
         Frame::Item(frame) => close_in_item(alloc, stack, frame, line, token),
         other => {
-            lose((other, line));
+            other.lose();
+            line.lose();
             Ok(Placed::Stands(Control::Fail))
         }
     }
@@ -218,6 +222,6 @@ pub fn close(
             Placed::Complete(next) => line = next,
         }
     }
-    lose(line);
+    line.lose();
     Ok(Control::Fail)
 }

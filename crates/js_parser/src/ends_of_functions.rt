@@ -6,23 +6,18 @@ ghost use Rattle.es_model.specs.declared.kinds.FunctionKind.TheVariants as kinds
 ghost use Rattle.es_model.specs.declared.kinds.MemberKind.TheVariants as member;
 ghost use Rattle.parser_forms.specs.Ends as e;
 ghost use Rattle.parser_forms.specs.Kept.{and_then};
-ghost use Rattle.parser_forms.specs.Parts as p;
 ghost use Rattle.parser_forms.specs.declared.frame.Frame.TheVariants as f;
-ghost use Rattle.parser_forms.specs.declared.frame.ItemFrame.TheVariants as n;
-ghost use Rattle.parser_forms.specs.declared.frame.ListRole.TheVariants as l;
 ghost use Rattle.parser_forms.specs.declared.frame.MemberFrame.TheVariants as m;
 ghost use Rattle.parser_forms.specs.declared.frame.Signature.TheVariants as g;
-ghost use Rattle.parser_forms.specs.declared.frame.StatementFrame.TheVariants as s;
 ghost use Rattle.js_parser.specs.Shows.{Shows};
 
 use crate::puts::{open_form, put, put_item};
 use es_model::{Expression, FunctionKind, Identifier, MemberKind, TreeList};
 use parser_forms::{
-    CaseTree, Cases, ClassStart, ClassTree, Control, Frame, ItemFrame, Items, Kept, ListRole,
-    MemberDue, MemberFrame, MemberStart, MemberTree, Members, Part, Role, Signature, Stack,
-    StatementDue, StatementFrame, Statements, Word, and_case, and_member, arrow_expression, block,
-    case, class, class_expression, class_statement, default_class, default_function, function,
-    function_expression, function_member, function_statement, guarded, lose, switch,
+    ClassStart, ClassTree, Control, Frame, ItemFrame, Kept, ListRole, Lose, MemberDue, MemberFrame,
+    MemberStart, MemberTree, Members, Role, Signature, Stack, StatementFrame, Statements,
+    and_member, class, class_expression, class_statement, default_class, default_function,
+    function, function_expression, function_member, function_statement,
 };
 use std::alloc::{AllocError, Global};
 
@@ -84,7 +79,7 @@ fn with_method(
     match method(alloc, start, due, parameters, body) {
         Ok(one) => and_member(members, one),
         Err(error) => {
-            lose(members);
+            members.lose();
             Err(error)
         }
     }
@@ -133,7 +128,7 @@ fn class_method_end(
             Control::Member(MemberDue::Member),
         ),
         Err(error) => {
-            lose(class);
+            class.lose();
             Err(error)
         }
     }
@@ -158,7 +153,10 @@ fn method_end_in(
             members,
         } => class_method_end(alloc, stack, class, members, start, parameters, body),
         other => {
-            lose((other, start, parameters, body));
+            other.lose();
+            start.lose();
+            parameters.lose();
+            body.lose();
             Ok(Control::Fail)
         }
     }
@@ -178,11 +176,16 @@ fn method_end(
             method_end_in(alloc, stack, frame, start, parameters, body)
         }
         Some(other) => {
-            lose((other, start, parameters, body));
+            other.lose();
+            start.lose();
+            parameters.lose();
+            body.lose();
             Ok(Control::Fail)
         }
         None => {
-            lose((start, parameters, body));
+            start.lose();
+            parameters.lose();
+            body.lose();
             Ok(Control::Fail)
         }
     }

@@ -3,27 +3,22 @@
 
 ghost use Rattle.std.specs.Prelude.{◌≡◌, ◌∷◌, None, IfOk};
 ghost use Rattle.es_model.specs.declared.kinds.FunctionKind.TheVariants as kinds;
-ghost use Rattle.es_model.specs.declared.kinds.MemberKind.TheVariants as member;
 ghost use Rattle.parser_forms.specs.Ends as e;
 ghost use Rattle.parser_forms.specs.Kept.{and_then};
 ghost use Rattle.parser_forms.specs.Parts as p;
 ghost use Rattle.parser_forms.specs.declared.frame.Frame.TheVariants as f;
 ghost use Rattle.parser_forms.specs.declared.frame.ItemFrame.TheVariants as n;
 ghost use Rattle.parser_forms.specs.declared.frame.ListRole.TheVariants as l;
-ghost use Rattle.parser_forms.specs.declared.frame.MemberFrame.TheVariants as m;
-ghost use Rattle.parser_forms.specs.declared.frame.Signature.TheVariants as g;
 ghost use Rattle.parser_forms.specs.declared.frame.StatementFrame.TheVariants as s;
 ghost use Rattle.js_parser.specs.Shows.{Shows};
 
 use crate::ends_of_functions::function_end;
-use crate::puts::{open_form, put, put_item};
+use crate::puts::{open_form, put};
 use es_model::{Expression, FunctionKind, Identifier, MemberKind, TreeList};
 use parser_forms::{
-    CaseTree, Cases, ClassStart, ClassTree, Control, Frame, ItemFrame, Items, Kept, ListRole,
-    MemberDue, MemberFrame, MemberStart, MemberTree, Members, Part, Role, Signature, Stack,
-    StatementDue, StatementFrame, Statements, Word, and_case, and_member, arrow_expression, block,
-    case, class, class_expression, class_statement, default_class, default_function, function,
-    function_expression, function_member, function_statement, guarded, lose, switch,
+    CaseTree, Cases, Control, Frame, ItemFrame, Items, Kept, ListRole, Lose, MemberFrame, Part,
+    Signature, Stack, StatementDue, StatementFrame, Statements, Word, and_case, arrow_expression,
+    block, case, class, function, guarded, switch,
 };
 use std::alloc::{AllocError, Global};
 
@@ -42,7 +37,7 @@ pub fn switch_end(alloc: Global, stack: &mut Stack<Frame>) -> Result<Control, Al
             ),
         ) => put(alloc, stack, switch(alloc, value, cases)?),
         Some(other) => {
-            lose(other);
+            other.lose();
             Ok(Control::Fail)
         }
         None => Ok(Control::Fail),
@@ -50,7 +45,6 @@ pub fn switch_end(alloc: Global, stack: &mut Stack<Frame>) -> Result<Control, Al
 }
 
 fn with_case_in_switch(
-    alloc: Global,
     stack: &mut Stack<Frame>,
     of: Kept<Expression>,
     cases: Kept<Cases>,
@@ -60,13 +54,13 @@ fn with_case_in_switch(
     ensures { IfOk result (λ done. stack.new ≡ f.Statement (s.Switch of (and_then cases one) has_default) ∷ stack.old) }
 {
     match and_case(cases, one) {
-        Ok(cases) => stack.push(Frame::Statement(StatementFrame::Switch {
+        Ok(cases) => stack.open(Frame::Statement(StatementFrame::Switch {
             value: of,
             cases,
             has_default,
         })),
         Err(error) => {
-            lose(of);
+            of.lose();
             Err(error)
         }
     }
@@ -89,18 +83,19 @@ fn with_case_in(
             has_default,
         } => {
             let has_default = has_default || test.is_none();
-            with_case_in_switch(
-                alloc,
-                stack,
-                value,
-                cases,
-                has_default,
-                case(alloc, test, body)?,
-            )
+            match case(alloc, test, body) {
+                Ok(one) => with_case_in_switch(stack, value, cases, has_default, one),
+                Err(error) => {
+                    value.lose();
+                    cases.lose();
+                    Err(error)
+                }
+            }
         }
         other => {
-            lose((test, body));
-            stack.push(Frame::Statement(other))
+            test.lose();
+            body.lose();
+            stack.open(Frame::Statement(other))
         }
     }
 }
@@ -117,11 +112,13 @@ fn with_case(
     match stack.pop() {
         Some(Frame::Statement(frame)) => with_case_in(alloc, stack, frame, test, body),
         Some(other) => {
-            lose((test, body));
-            stack.push(other)
+            test.lose();
+            body.lose();
+            stack.open(other)
         }
         None => {
-            lose((test, body));
+            test.lose();
+            body.lose();
             Ok(())
         }
     }
@@ -172,7 +169,8 @@ fn next_case_in(
             case_start(stack, word)
         }
         other => {
-            lose((other, body));
+            other.lose();
+            body.lose();
             Ok(Control::Fail)
         }
     }
@@ -187,7 +185,7 @@ pub fn next_case(alloc: Global, stack: &mut Stack<Frame>, word: Word) -> Result<
             next_case_in(alloc, stack, role, statements, word)
         }
         Some(other) => {
-            lose(other);
+            other.lose();
             Ok(Control::Fail)
         }
         None => Ok(Control::Fail),
@@ -257,7 +255,7 @@ pub fn braces_end(alloc: Global, stack: &mut Stack<Frame>) -> Result<Control, Al
             list_end(alloc, stack, role, statements)
         }
         Some(other) => {
-            lose(other);
+            other.lose();
             Ok(Control::Fail)
         }
         None => Ok(Control::Fail),
@@ -269,7 +267,7 @@ fn module_ends(stack: &Stack<Frame>, items: Kept<Items>) -> Control
 {
     match stack.top() {
         Some(_) => {
-            lose(items);
+            items.lose();
             Control::Fail
         }
         None => Control::Done(items),
@@ -283,7 +281,7 @@ pub fn module_end(stack: &mut Stack<Frame>) -> Control
     match stack.pop() {
         Some(Frame::Item(ItemFrame::Module { items })) => module_ends(stack, items),
         Some(other) => {
-            lose(other);
+            other.lose();
             Control::Fail
         }
         None => Control::Fail,

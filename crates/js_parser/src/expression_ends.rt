@@ -9,7 +9,6 @@ ghost use Rattle.parser_forms.specs.Tables as t;
 ghost use Rattle.parser_forms.specs.declared.frame.Callee.TheVariants as callee;
 ghost use Rattle.parser_forms.specs.declared.frame.ExpressionFrame.TheVariants as x;
 ghost use Rattle.parser_forms.specs.declared.frame.Frame.TheVariants as f;
-ghost use Rattle.es_model.specs.declared.token.TokenKind.TheVariants as k;
 ghost use Rattle.js_parser.specs.Closes.{Closes};
 ghost use Rattle.js_parser.specs.Shows.{Shows};
 
@@ -18,9 +17,10 @@ use crate::tables::{is_base, is_new_callee};
 use es_model::{Token, TokenKind, TreeList};
 use js_value::Units;
 use parser_forms::{
-    Callee, Control, ExpressionFrame, Expressions, Frame, Kept, Part, Stack, Word, and_expression,
-    array, arrow, assign, bare_new, called, conditional, copy_of, index, lose, no_expressions,
-    operation, paren, prefix_form, super_index, template, update_before, word_of_kind,
+    Callee, Control, ExpressionFrame, Expressions, Frame, Kept, Lose, Part, Stack, Word,
+    and_expression, array, arrow, assign, bare_new, called, conditional, copy_of, index,
+    no_expressions, operation, paren, prefix_form, super_index, template, update_before,
+    word_of_kind,
 };
 use std::alloc::{AllocError, Global};
 
@@ -38,7 +38,7 @@ fn end_paren(alloc: Global, at: u32, part: Part, word: Word) -> Result<Control, 
     match word {
         Word::RightParen => Ok(Control::Read(paren(alloc, at, part)?)),
         _ => {
-            lose(part);
+            part.lose();
             Ok(Control::Fail)
         }
     }
@@ -55,8 +55,8 @@ fn end_first(
     match word {
         Word::Colon => opened(stack, ExpressionFrame::No { test, yes }),
         _ => {
-            lose(test);
-            lose(yes);
+            test.lose();
+            yes.lose();
             Ok(Control::Fail)
         }
     }
@@ -75,8 +75,8 @@ fn arguments_end(
         Word::RightParen => Ok(Control::Read(called(alloc, callee, arguments)?)),
         Word::Comma => opened(stack, ExpressionFrame::Arguments { callee, arguments }),
         _ => {
-            lose(callee);
-            lose(arguments);
+            callee.lose();
+            arguments.lose();
             Ok(Control::Fail)
         }
     }
@@ -95,7 +95,7 @@ fn end_argument(
     match and_expression(arguments, part.into_kept()) {
         Ok(arguments) => arguments_end(alloc, stack, callee, arguments, word),
         Err(error) => {
-            lose(callee);
+            callee.lose();
             Err(error)
         }
     }
@@ -115,7 +115,7 @@ fn end_item(
         Word::RightBracket => Ok(Control::Read(array(at, items))),
         Word::Comma => opened(stack, ExpressionFrame::Array { at, items }),
         _ => {
-            lose(items);
+            items.lose();
             Ok(Control::Fail)
         }
     }
@@ -127,8 +127,8 @@ fn end_index(alloc: Global, of: Part, part: Part, word: Word) -> Result<Control,
     match word {
         Word::RightBracket => Ok(Control::Read(index(alloc, of, part)?)),
         _ => {
-            lose(of);
-            lose(part);
+            of.lose();
+            part.lose();
             Ok(Control::Fail)
         }
     }
@@ -140,7 +140,7 @@ fn end_super_index(alloc: Global, at: u32, part: Part, word: Word) -> Result<Con
     match word {
         Word::RightBracket => Ok(Control::Read(super_index(alloc, at, part)?)),
         _ => {
-            lose(part);
+            part.lose();
             Ok(Control::Fail)
         }
     }
@@ -192,13 +192,13 @@ fn template_end(
         } => match and_text(alloc, texts, text) {
             Ok(texts) => template_piece(stack, at, texts, values, *last),
             Err(error) => {
-                lose(values);
+                values.lose();
                 Err(error)
             }
         },
         _ => {
-            lose(texts);
-            lose(values);
+            texts.lose();
+            values.lose();
             Ok(Control::Fail)
         }
     }
@@ -218,7 +218,7 @@ fn end_template(
     match and_expression(values, part.into_kept()) {
         Ok(values) => template_end(alloc, stack, at, texts, values, kind),
         Err(error) => {
-            lose(texts);
+            texts.lose();
             Err(error)
         }
     }
@@ -237,7 +237,7 @@ fn new_arguments(
         let arguments = no_expressions(alloc);
         opened(stack, ExpressionFrame::Arguments { callee, arguments })
     } else {
-        lose(part);
+        part.lose();
         Ok(Control::Fail)
     }
 }
@@ -253,7 +253,7 @@ fn close_new(
     ensures { IfOk result (λ made. Closes (f.Expression (x.New at)) part token.now stack.old made stack.new) }
 {
     if !is_new_callee(&part) {
-        lose(part);
+        part.lose();
         return Ok(Closed::Done(Control::Fail));
     }
     match word_of_kind(&token.kind) {
@@ -284,7 +284,7 @@ pub fn close_expression(
             Ok(Closed::Read(update_before(alloc, at, up, part)?))
         }
         ExpressionFrame::Update { .. } => {
-            lose(part);
+            part.lose();
             Ok(Closed::Done(Control::Fail))
         }
         ExpressionFrame::New { at } => close_new(alloc, stack, at, part, token),

@@ -14,8 +14,8 @@ use crate::puts::open_form;
 use crate::texts::plain_name;
 use es_model::{Identifier, Token, TreeList};
 use parser_forms::{
-    Callee, Control, ExpressionDue, ExpressionFrame, Frame, ListRole, Stack, StatementFrame, Word,
-    dot, lose, no_expressions, no_statements, super_dot, word_of_kind,
+    Callee, Control, ExpressionDue, ExpressionFrame, Frame, ListRole, Lose, Stack, StatementFrame,
+    Word, dot, no_expressions, no_statements, super_dot, word_of_kind,
 };
 use std::alloc::{AllocError, Global};
 
@@ -64,7 +64,7 @@ fn arrow_word(at: u32, parameters: TreeList<Identifier>, word: Word, line: bool)
     match word {
         Word::Arrow if !line => Control::Expression(ExpressionDue::ArrowBody { at, parameters }),
         _ => {
-            lose(parameters);
+            parameters.lose();
             Control::Fail
         }
     }
@@ -87,7 +87,7 @@ fn arrow_body(
             open_form(stack, frame, Control::Statement)
         }
         _ => {
-            stack.push(Frame::Expression(ExpressionFrame::Arrow { at, parameters }))?;
+            stack.open(Frame::Expression(ExpressionFrame::Arrow { at, parameters }))?;
             operand(alloc, stack, token)
         }
     }
@@ -107,11 +107,11 @@ pub fn expression_step(
         ExpressionDue::Property { of } => match plain_name(alloc, &token.kind) {
             Ok(Some(text)) => Ok(Control::Read(dot(alloc, of, text)?)),
             Ok(None) => {
-                lose(of);
+                of.lose();
                 Ok(Control::Fail)
             }
             Err(error) => {
-                lose(of);
+                of.lose();
                 Err(error)
             }
         },

@@ -17,8 +17,8 @@ use crate::texts::identifier;
 use es_model::{Identifier, MemberKind, Token, TokenKind, TreeList};
 use js_value::Units;
 use parser_forms::{
-    ClassStart, Control, Frame, ListRole, MemberDue, MemberFrame, Role, Signature, Stack,
-    StatementFrame, Word, lose, no_members, no_statements, word_of_kind,
+    ClassStart, Control, Frame, ListRole, Lose, MemberDue, MemberFrame, Role, Signature, Stack,
+    StatementFrame, Word, no_members, no_statements, word_of_kind,
 };
 use std::alloc::{AllocError, Global};
 
@@ -92,7 +92,7 @@ pub fn parameters_open(
             parameters: TreeList::new(alloc),
         }),
         _ => {
-            lose(signature);
+            signature.lose();
             Control::Fail
         }
     }
@@ -107,7 +107,8 @@ fn parameter_end(
     ensures { Shows (s.parameter_end stack.now signature parameters word) result stack.now }
 {
     if word != Word::RightParen || is_setter_of(&signature) {
-        lose((signature, parameters));
+        signature.lose();
+        parameters.lose();
         return Control::Fail;
     }
     Control::Member(MemberDue::Body {
@@ -141,7 +142,8 @@ fn named_parameter(
     ensures { IfOk result (λ c. Shows (s.parameter stack.now signature parameters (k.Name text.now) place w.Name) c stack.now) }
 {
     if is_getter_of(&signature) {
-        lose((signature, parameters));
+        signature.lose();
+        parameters.lose();
         return Ok(Control::Fail);
     }
     match with_parameter(alloc, parameters, place, text) {
@@ -150,7 +152,7 @@ fn named_parameter(
             parameters,
         })),
         Err(error) => {
-            lose(signature);
+            signature.lose();
             Err(error)
         }
     }
@@ -182,7 +184,8 @@ fn parameter_comma(
     ensures { Shows (s.parameter_next stack.now signature parameters w.Comma) result stack.now }
 {
     if is_setter_of(&signature) {
-        lose((signature, parameters));
+        signature.lose();
+        parameters.lose();
         return Control::Fail;
     }
     Control::Member(MemberDue::Parameter {
@@ -207,7 +210,8 @@ pub fn parameter_next(
         }),
         Word::Comma => parameter_comma(stack, signature, parameters),
         _ => {
-            lose((signature, parameters));
+            signature.lose();
+            parameters.lose();
             Control::Fail
         }
     }
@@ -237,7 +241,8 @@ pub fn body_open(
             )
         }
         _ => {
-            lose((signature, parameters));
+            signature.lose();
+            parameters.lose();
             Ok(Control::Fail)
         }
     }
@@ -285,7 +290,7 @@ pub fn class_next(
         ),
         Word::LeftBrace => class_open(alloc, stack, at, name, role),
         _ => {
-            lose(name);
+            name.lose();
             Ok(Control::Fail)
         }
     }

@@ -14,8 +14,8 @@ use crate::operands::{list_of_one, opened};
 use crate::tables::{assignment_of, infix_of, is_base, is_left_of};
 use es_model::{BinaryOperator, Identifier, TreeList};
 use parser_forms::{
-    Callee, Control, ExpressionDue, ExpressionFrame, Frame, Heading, Infix, Part, Stack, Word,
-    lose, no_expressions, update_behind,
+    Callee, Control, ExpressionDue, ExpressionFrame, Frame, Heading, Infix, Lose, Part, Stack,
+    Word, no_expressions, update_behind,
 };
 use std::alloc::{AllocError, Global};
 
@@ -27,7 +27,7 @@ fn head_of(alloc: Global, heading: Heading) -> Result<Option<TreeList<Identifier
         Heading::Name(one) => Ok(Some(list_of_one(alloc, one)?)),
         Heading::Head(names) => Ok(Some(names)),
         Heading::Names(names) => {
-            lose(names);
+            names.lose();
             Ok(None)
         }
         Heading::Nothing => Ok(None),
@@ -73,7 +73,7 @@ fn taken_as(
         Word::LeftBracket if is_base(&part) => opened(stack, ExpressionFrame::Index { of: part }),
         Word::LeftParen if is_base(&part) => call_opened(alloc, stack, part),
         _ => {
-            lose(part);
+            part.lose();
             Ok(Control::Fail)
         }
     }
@@ -85,7 +85,7 @@ fn take_infix(stack: &mut Stack<Frame>, left: Part, operator: Infix) -> Result<C
     if is_left_of(operator, &left) {
         opened(stack, ExpressionFrame::Infix { operator, left })
     } else {
-        lose(left);
+        left.lose();
         Ok(Control::Fail)
     }
 }
@@ -100,7 +100,7 @@ fn take_assignment(
     if target.is_target {
         opened(stack, ExpressionFrame::Assign { target, operator })
     } else {
-        lose(target);
+        target.lose();
         Ok(Control::Fail)
     }
 }

@@ -18,8 +18,8 @@ use crate::texts::{identifier, text_of};
 use es_model::{Identifier, Item, Pair, Semi, Token, TokenKind, TreeList};
 use js_value::Units;
 use parser_forms::{
-    Control, Frame, ItemDue, ItemFrame, ItemTree, Kept, MemberDue, PairRole, Role, Stack, Word,
-    copy_of, is_text, lose, same_name, word_of_kind,
+    Control, Frame, ItemDue, ItemFrame, ItemTree, Kept, Lose, MemberDue, PairRole, Role, Stack,
+    Word, copy_of, is_text, same_name, word_of_kind,
 };
 use std::alloc::{AllocError, Global};
 
@@ -147,7 +147,7 @@ fn import_brace(stack: &Stack<Frame>, pairs: TreeList<Pair>, word: Word) -> Cont
             pairs,
         }),
         _ => {
-            lose(pairs);
+            pairs.lose();
             Control::Fail
         }
     }
@@ -163,7 +163,7 @@ fn from_due(stack: &Stack<Frame>, pairs: TreeList<Pair>, token: &Token) -> Contr
             pairs,
         });
     }
-    lose(pairs);
+    pairs.lose();
     Control::Fail
 }
 
@@ -236,7 +236,7 @@ fn pair_word(
             outer: true,
         })),
         _ => {
-            lose(pairs);
+            pairs.lose();
             Ok(Control::Fail)
         }
     }
@@ -286,8 +286,8 @@ fn both_names(
     ensures { IfOk result (λ c. Shows (s.both_names stack.now role pairs taken outer word) c stack.now) }
 {
     if role == PairRole::Import && outer {
-        lose(taken);
-        lose(pairs);
+        taken.lose();
+        pairs.lose();
         return Ok(Control::Fail);
     }
     let given = same_name(alloc, &taken)?;
@@ -302,7 +302,7 @@ fn pair_next(stack: &Stack<Frame>, role: PairRole, pairs: TreeList<Pair>, word: 
         Word::Comma => Control::Item(ItemDue::Pair { role, pairs }),
         Word::RightBrace => pairs_end(stack, role, pairs),
         _ => {
-            lose(pairs);
+            pairs.lose();
             Control::Fail
         }
     }
@@ -349,8 +349,8 @@ fn given_word(
     ensures { IfOk result (λ c. Shows (s.given_word stack.now role pairs taken outer at word) c stack.now) }
 {
     if role == PairRole::Import || word != Word::Default {
-        lose(taken);
-        lose(pairs);
+        taken.lose();
+        pairs.lose();
         return Ok(Control::Fail);
     }
     let given = default_name(alloc, at)?;
@@ -378,7 +378,7 @@ fn other_due(
             from: copy_of(alloc, text)?,
         })),
         _ => {
-            lose(pairs);
+            pairs.lose();
             Ok(Control::Fail)
         }
     }
@@ -420,8 +420,8 @@ fn other_end(
             token,
         );
     }
-    lose(pairs);
-    lose(from);
+    pairs.lose();
+    from.lose();
     Ok(Control::Fail)
 }
 
@@ -443,7 +443,7 @@ fn export_next(
         }));
     }
     if from {
-        lose(pairs);
+        pairs.lose();
         return Ok(Control::Fail);
     }
     export_names(alloc, stack, pairs, token)
@@ -464,7 +464,7 @@ fn export_names(
     if may_miss(word, token.line_before) {
         return close_item(alloc, stack, named(names, Semi::Missing), token);
     }
-    lose(names);
+    names.lose();
     Ok(Control::Fail)
 }
 
@@ -493,7 +493,7 @@ fn export_due(
         })),
         Word::Default => Ok(Control::Item(ItemDue::Default { at })),
         _ => {
-            stack.push(Frame::Item(ItemFrame::Export))?;
+            stack.open(Frame::Item(ItemFrame::Export))?;
             declaration(alloc, stack, word, at)
         }
     }
@@ -518,7 +518,7 @@ fn default_due(
             role: Role::Default { at },
         })),
         _ => {
-            stack.push(Frame::Item(ItemFrame::Default { at }))?;
+            stack.open(Frame::Item(ItemFrame::Default { at }))?;
             operand(alloc, stack, token)
         }
     }

@@ -16,8 +16,8 @@ use crate::puts::put;
 use crate::statement_steps::{operand_in, statement_in};
 use es_model::{Expression, Semi, Statement, Token};
 use parser_forms::{
-    Control, DeclareRole, Frame, HeadTree, Kept, Stack, StatementDue, StatementFrame, Word,
-    do_loop, head_nothing, lose, no_declarators, word_of_kind,
+    Control, DeclareRole, Frame, HeadTree, Kept, Lose, Stack, StatementDue, StatementFrame, Word,
+    do_loop, head_nothing, no_declarators, word_of_kind,
 };
 use std::alloc::{AllocError, Global};
 
@@ -58,7 +58,7 @@ pub fn for_head(
         Word::Let => Ok(names_of_for(alloc, false)),
         Word::Const => Ok(names_of_for(alloc, true)),
         _ => {
-            stack.push(Frame::Statement(StatementFrame::ForValue))?;
+            stack.open(Frame::Statement(StatementFrame::ForValue))?;
             operand(alloc, stack, token)
         }
     }
@@ -76,7 +76,7 @@ pub fn for_test(
     match word_of_kind(&token.kind) {
         Word::Semicolon => Ok(Control::StatementPart(StatementDue::ForStep { head, test: None })),
         _ => {
-            stack.push(Frame::Statement(StatementFrame::ForTest { head }))?;
+            stack.open(Frame::Statement(StatementFrame::ForTest { head }))?;
             operand(alloc, stack, token)
         }
     }
@@ -102,7 +102,7 @@ pub fn for_step(
             },
         ),
         _ => {
-            stack.push(Frame::Statement(StatementFrame::ForStep { head, test }))?;
+            stack.open(Frame::Statement(StatementFrame::ForStep { head, test }))?;
             operand(alloc, stack, token)
         }
     }
@@ -115,7 +115,7 @@ pub fn do_while(stack: &Stack<Frame>, body: Kept<Statement>, token: &Token) -> C
     match word_of_kind(&token.kind) {
         Word::While => Control::StatementPart(StatementDue::DoOpen { body }),
         _ => {
-            lose(body);
+            body.lose();
             Control::Fail
         }
     }
@@ -132,7 +132,7 @@ pub fn do_open(
     match word_of_kind(&token.kind) {
         Word::LeftParen => operand_in(stack, StatementFrame::DoTest { body }),
         _ => {
-            lose(body);
+            body.lose();
             Ok(Control::Fail)
         }
     }

@@ -16,8 +16,8 @@ use crate::puts::{open_form, put_item};
 use crate::tables::may_miss;
 use es_model::{Expression, Identifier, MemberKind, Semi, Token};
 use parser_forms::{
-    ClassStart, Control, Frame, ItemFrame, Kept, MemberDue, MemberFrame, MemberStart, Part, Role,
-    Stack, Word, computed_key, default_value, lose, no_members, value_member, word_of_kind,
+    ClassStart, Control, Frame, ItemFrame, Kept, Lose, MemberDue, MemberFrame, MemberStart, Part,
+    Role, Stack, Word, computed_key, default_value, no_members, value_member, word_of_kind,
 };
 use std::alloc::{AllocError, Global};
 
@@ -42,7 +42,7 @@ fn end_key(
             short: None,
         })),
         _ => {
-            lose(part);
+            part.lose();
             Ok(Control::Fail)
         }
     }
@@ -72,8 +72,8 @@ fn end_parent(
             open_form(stack, frame, Control::Member(MemberDue::Member))
         }
         _ => {
-            lose(name);
-            lose(part);
+            name.lose();
+            part.lose();
             Ok(Control::Fail)
         }
     }
@@ -115,8 +115,8 @@ pub fn end_in_member(
             end_parent(alloc, stack, at, name, role, part, word)
         }
         other => {
-            lose(other);
-            lose(part);
+            other.lose();
+            part.lose();
             Ok(Control::Fail)
         }
     }
@@ -139,7 +139,7 @@ fn end_default(
             if may_miss(word, token.line_before) {
                 close_item(alloc, stack, default_value(at, of, Semi::Missing), token)
             } else {
-                lose(of);
+                of.lose();
                 Ok(Control::Fail)
             }
         }
@@ -159,8 +159,8 @@ pub fn end_in_item(
     match frame {
         ItemFrame::Default { at } => end_default(alloc, stack, at, part.into_kept(), token),
         other => {
-            lose(other);
-            lose(part);
+            other.lose();
+            part.lose();
             Ok(Control::Fail)
         }
     }

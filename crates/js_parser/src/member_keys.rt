@@ -19,8 +19,8 @@ use crate::texts::{identifier, plain_name, text_of};
 use es_model::{Identifier, Key, MemberKind, Token, TokenKind, TreeList};
 use js_value::Units;
 use parser_forms::{
-    Control, Frame, KeyPart, KeyTree, MemberDue, MemberFrame, MemberStart, Signature, Stack, Word,
-    copy_of, is_text, key, lose, short_member, word_of_kind,
+    Control, Frame, KeyPart, KeyTree, Lose, MemberDue, MemberFrame, MemberStart, Signature, Stack,
+    Word, copy_of, is_text, key, short_member, word_of_kind,
 };
 use std::alloc::{AllocError, Global};
 
@@ -73,7 +73,7 @@ fn name_key(
     match identifier(alloc, place, text) {
         Ok(one) => Ok(keyed(at, fixed, kind, tree, Some(one))),
         Err(error) => {
-            lose(tree);
+            tree.lose();
             Err(error)
         }
     }
@@ -218,7 +218,7 @@ fn value_due(stack: &mut Stack<Frame>, start: MemberStart) -> Result<Control, Al
             Control::Operand,
         ),
         _ => {
-            lose(start);
+            start.lose();
             Ok(Control::Fail)
         }
     }
@@ -233,11 +233,11 @@ fn short_comma(
     ensures { IfOk result (λ c. Shows (s.object_key stack.old start (Some one) start.kind w.Comma) c stack.new) }
 {
     let kind = start.kind;
-    lose(start);
+    start.lose();
     match kind {
         MemberKind::Method => object_next(stack, short_member(one), Word::Comma),
         _ => {
-            lose(one);
+            one.lose();
             Ok(Control::Fail)
         }
     }
@@ -252,11 +252,11 @@ fn short_brace(
     ensures { IfOk result (λ c. Shows (s.object_key stack.old start (Some one) start.kind w.RightBrace) c stack.new) }
 {
     let kind = start.kind;
-    lose(start);
+    start.lose();
     match kind {
         MemberKind::Method => object_next(stack, short_member(one), Word::RightBrace),
         _ => {
-            lose(one);
+            one.lose();
             Ok(Control::Fail)
         }
     }
@@ -276,15 +276,16 @@ fn name_in_object(
         Word::Comma => short_comma(stack, start, one),
         Word::RightBrace => short_brace(stack, start, one),
         Word::LeftParen => {
-            lose(one);
+            one.lose();
             Ok(parameters_of(alloc, start))
         }
         Word::Colon => {
-            lose(one);
+            one.lose();
             value_due(stack, start)
         }
         _ => {
-            lose((start, one));
+            start.lose();
+            one.lose();
             Ok(Control::Fail)
         }
     }
@@ -303,7 +304,7 @@ fn key_in_object(
         Word::LeftParen => Ok(parameters_of(alloc, start)),
         Word::Colon => value_due(stack, start),
         _ => {
-            lose(start);
+            start.lose();
             Ok(Control::Fail)
         }
     }
@@ -333,11 +334,11 @@ fn class_key(
 ) -> Control
     ensures { Shows (s.class_key stack.now start word) result stack.now }
 {
-    lose(short);
+    short.lose();
     match word {
         Word::LeftParen => parameters_of(alloc, start),
         _ => {
-            lose(start);
+            start.lose();
             Control::Fail
         }
     }
@@ -395,7 +396,7 @@ pub fn accessor(
         Word::Comma => word_as_key(alloc, stack, at, fixed, one, Word::Comma),
         Word::RightBrace => word_as_key(alloc, stack, at, fixed, one, Word::RightBrace),
         _ => {
-            lose(one);
+            one.lose();
             key_kind(alloc, stack, at, fixed, kind, token)
         }
     }

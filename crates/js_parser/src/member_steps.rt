@@ -17,7 +17,7 @@ use crate::member_keys::{accessor, fixed_member, key_next, member_start};
 use crate::puts::open_form;
 use es_model::Token;
 use parser_forms::{
-    ClassStart, Control, Frame, Kept, MemberDue, MemberFrame, Members, Stack, Word, lose, object,
+    ClassStart, Control, Frame, Kept, Lose, MemberDue, MemberFrame, Members, Stack, Word, object,
     word_of_kind,
 };
 use std::alloc::{AllocError, Global};
@@ -76,7 +76,7 @@ fn object_member(
     match word_of_kind(&token.kind) {
         Word::RightBrace => Ok(Control::Read(object(at, members))),
         _ => {
-            stack.push(Frame::Member(MemberFrame::Object { at, members }))?;
+            stack.open(Frame::Member(MemberFrame::Object { at, members }))?;
             member_start(alloc, stack, token.at, false, token)
         }
     }
@@ -92,7 +92,7 @@ fn class_member_start(
 ) -> Result<Control, AllocError>
     ensures { IfOk result (λ c. Shows (s.member_start (f.Member (m.Class start members) ∷ stack.old) token.now.at false token.now) c stack.new) }
 {
-    stack.push(Frame::Member(MemberFrame::Class { start, members }))?;
+    stack.open(Frame::Member(MemberFrame::Class { start, members }))?;
     member_start(alloc, stack, token.at, false, token)
 }
 
@@ -133,7 +133,7 @@ fn member_due_in(
         MemberFrame::Object { at, members } => object_member(alloc, stack, at, members, token),
         MemberFrame::Class { start, members } => class_member(alloc, stack, start, members, token),
         other => {
-            lose(other);
+            other.lose();
             Ok(Control::Fail)
         }
     }
@@ -145,7 +145,7 @@ fn member_due(alloc: Global, stack: &mut Stack<Frame>, token: &Token) -> Result<
     match stack.pop() {
         Some(Frame::Member(frame)) => member_due_in(alloc, stack, frame, token),
         Some(other) => {
-            lose(other);
+            other.lose();
             Ok(Control::Fail)
         }
         None => Ok(Control::Fail),
@@ -160,7 +160,7 @@ fn object_end(stack: &mut Stack<Frame>) -> Control
             Control::Read(object(at, members))
         }
         Some(other) => {
-            lose(other);
+            other.lose();
             Control::Fail
         }
         None => Control::Fail,

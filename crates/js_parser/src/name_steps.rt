@@ -17,8 +17,8 @@ use crate::tables::may_miss;
 use crate::texts::identifier;
 use es_model::{Identifier, Semi, Token, TokenKind};
 use parser_forms::{
-    Control, Declarators, DeclareRole, Frame, Kept, Stack, StatementDue, StatementFrame, Word,
-    and_declarator, declarator, declare, head_declare, lose, word_of_kind,
+    Control, Declarators, DeclareRole, Frame, Kept, Lose, Stack, StatementDue, StatementFrame,
+    Word, and_declarator, declarator, declare, head_declare, word_of_kind,
 };
 use std::alloc::{AllocError, Global};
 
@@ -42,12 +42,12 @@ pub fn name_due(
                 name,
             })),
             Err(error) => {
-                lose(names);
+                names.lose();
                 Err(error)
             }
         },
         _ => {
-            lose(names);
+            names.lose();
             Ok(Control::Fail)
         }
     }
@@ -64,7 +64,7 @@ fn with_name(
     match declarator(alloc, own, None) {
         Ok(last) => and_declarator(names, last),
         Err(error) => {
-            lose(names);
+            names.lose();
             Err(error)
         }
     }
@@ -93,7 +93,8 @@ pub fn name_next(
             },
         ),
         _ if constant => {
-            lose((names, own));
+            names.lose();
+            own.lose();
             Ok(Control::Fail)
         }
         _ => name_end(alloc, stack, with_name(alloc, names, own)?, role, token),
@@ -136,7 +137,7 @@ fn names_of_statement(
     if may_miss(word, token.line_before) {
         return close(alloc, stack, declare(constant, names, Semi::Missing), token);
     }
-    lose(names);
+    names.lose();
     Ok(Control::Fail)
 }
 
@@ -155,7 +156,7 @@ fn names_of_for(
             Control::StatementPart(StatementDue::ForTest { head })
         }
         _ => {
-            lose(names);
+            names.lose();
             Control::Fail
         }
     }

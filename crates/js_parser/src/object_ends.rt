@@ -8,10 +8,10 @@ ghost use Rattle.js_parser.specs.Shows.{Shows};
 
 use crate::puts::open_form;
 use parser_forms::{
-    Control, Frame, Kept, MemberDue, MemberFrame, MemberTree, Members, Stack, Word, and_member,
-    lose, object,
+    Control, Frame, Kept, Lose, MemberDue, MemberFrame, MemberTree, Members, Stack, Word,
+    and_member, object,
 };
-use std::alloc::{AllocError, Global};
+use std::alloc::AllocError;
 
 fn object_with(
     stack: &mut Stack<Frame>,
@@ -31,7 +31,7 @@ fn object_with(
         ),
         Word::RightBrace => Ok(Control::Read(object(at, members))),
         _ => {
-            lose(members);
+            members.lose();
             Ok(Control::Fail)
         }
     }
@@ -50,12 +50,12 @@ pub fn object_next(
             object_with(stack, at, members, one, word)
         }
         Some(other) => {
-            lose(other);
-            lose(one);
+            other.lose();
+            one.lose();
             Ok(Control::Fail)
         }
         None => {
-            lose(one);
+            one.lose();
             Ok(Control::Fail)
         }
     }

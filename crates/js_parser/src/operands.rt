@@ -18,8 +18,8 @@ use crate::texts::identifier;
 use es_model::{Identifier, Token, TokenKind, TreeList};
 use js_value::Units;
 use parser_forms::{
-    Control, ExpressionDue, ExpressionFrame, Frame, Heading, Infix, Literal, MemberDue,
-    MemberFrame, Part, Prefix, Role, Stack, Word, array, called, copy_of, literal, lose, name,
+    Control, ExpressionDue, ExpressionFrame, Frame, Heading, Infix, Literal, Lose, MemberDue,
+    MemberFrame, Part, Prefix, Role, Stack, Word, array, called, copy_of, literal, name,
     no_expressions, no_members, template, word_of_kind,
 };
 use std::alloc::{AllocError, Global};
@@ -31,7 +31,7 @@ fn head_where(stack: &Stack<Frame>, at: u32, parameters: TreeList<Identifier>) -
     if slot(stack) <= 2 {
         Control::Expression(ExpressionDue::Arrow { at, parameters })
     } else {
-        lose(parameters);
+        parameters.lose();
         Control::Fail
     }
 }
@@ -44,7 +44,7 @@ fn list_of(alloc: Global, heading: Heading) -> Result<Option<TreeList<Identifier
         Heading::Name(one) => Ok(Some(list_of_one(alloc, one)?)),
         Heading::Names(names) => Ok(Some(names)),
         Heading::Head(names) => {
-            lose(names);
+            names.lose();
             Ok(None)
         }
         Heading::Nothing => Ok(None),
@@ -60,24 +60,41 @@ pub fn list_of_one(alloc: Global, one: Identifier) -> Result<TreeList<Identifier
     Ok(names)
 }
 
+// What a `)` behind a comma makes of the names before it, where the comma stands in this form.
+fn names_in(
+    alloc: Global,
+    stack: &mut Stack<Frame>,
+    frame: ExpressionFrame,
+    left: Part,
+) -> Result<Control, AllocError>
+    ensures { IfOk result (λ c. Shows (b.close_paren (f.Expression (x.Infix i.Comma left) ∷ f.Expression frame ∷ stack.old)) c stack.new) }
+{
+    match frame {
+        ExpressionFrame::Paren { at } => match list_of(alloc, left.into_heading())? {
+            Some(names) => Ok(head_where(stack, at, names)),
+            None => Ok(Control::Fail),
+        },
+        other => {
+            left.lose();
+            other.lose();
+            Ok(Control::Fail)
+        }
+    }
+}
+
 // A `)` behind a comma that is in parentheses ends a list of names.
 fn close_names(alloc: Global, stack: &mut Stack<Frame>, left: Part) -> Result<Control, AllocError>
     ensures { IfOk result (λ c. Shows (b.close_paren (f.Expression (x.Infix i.Comma left) ∷ stack.old)) c stack.new) }
 {
     match stack.pop() {
-        Some(Frame::Expression(ExpressionFrame::Paren { at })) => {
-            match list_of(alloc, left.into_heading())? {
-                Some(names) => Ok(head_where(stack, at, names)),
-                None => Ok(Control::Fail),
-            }
-        }
+        Some(Frame::Expression(frame)) => names_in(alloc, stack, frame, left),
         Some(other) => {
-            lose(left);
-            lose(other);
+            left.lose();
+            other.lose();
             Ok(Control::Fail)
         }
         None => {
-            lose(left);
+            left.lose();
             Ok(Control::Fail)
         }
     }
@@ -97,7 +114,7 @@ fn close_expression(
             if operator == Infix::Comma {
                 close_names(alloc, stack, left)
             } else {
-                lose(left);
+                left.lose();
                 Ok(Control::Fail)
             }
         }
@@ -105,7 +122,7 @@ fn close_expression(
             Ok(Control::Read(called(alloc, callee, arguments)?))
         }
         other => {
-            lose(other);
+            other.lose();
             Ok(Control::Fail)
         }
     }
@@ -118,7 +135,7 @@ fn close_paren(alloc: Global, stack: &mut Stack<Frame>) -> Result<Control, Alloc
     match stack.pop() {
         Some(Frame::Expression(frame)) => close_expression(alloc, stack, frame),
         Some(other) => {
-            lose(other);
+            other.lose();
             Ok(Control::Fail)
         }
         None => Ok(Control::Fail),
@@ -134,7 +151,7 @@ fn close_bracket(alloc: Global, stack: &mut Stack<Frame>) -> Result<Control, All
             Ok(Control::Read(array(at, items)))
         }
         Some(other) => {
-            lose(other);
+            other.lose();
             Ok(Control::Fail)
         }
         None => Ok(Control::Fail),
@@ -151,7 +168,7 @@ fn prefixed(
 {
     match operator {
         Some(operator) if slot(stack) <= 15 => {
-            stack.push(Frame::Expression(ExpressionFrame::Prefix { operator, at }))?;
+            stack.open(Frame::Expression(ExpressionFrame::Prefix { operator, at }))?;
             Ok(Control::Operand)
         }
         _ => Ok(Control::Fail),
@@ -165,7 +182,7 @@ fn updated(stack: &mut Stack<Frame>, up: bool, at: u32) -> Result<Control, Alloc
     if slot(stack) > 16 {
         return Ok(Control::Fail);
     }
-    stack.push(Frame::Expression(ExpressionFrame::Update { at, up }))?;
+    stack.open(Frame::Expression(ExpressionFrame::Update { at, up }))?;
     Ok(Control::Operand)
 }
 
@@ -173,7 +190,7 @@ fn updated(stack: &mut Stack<Frame>, up: bool, at: u32) -> Result<Control, Alloc
 pub fn opened(stack: &mut Stack<Frame>, frame: ExpressionFrame) -> Result<Control, AllocError>
     ensures { IfOk result (λ c. Shows (operand_due (f.Expression frame ∷ stack.old)) c stack.new) }
 {
-    stack.push(Frame::Expression(frame))?;
+    stack.open(Frame::Expression(frame))?;
     Ok(Control::Operand)
 }
 
@@ -181,7 +198,7 @@ fn object_opened(alloc: Global, stack: &mut Stack<Frame>, at: u32) -> Result<Con
     ensures { IfOk result (λ c. Shows (member_part md.Member (f.Member (m.Object at none) ∷ stack.old)) c stack.new) }
 {
     let members = no_members(alloc);
-    stack.push(Frame::Member(MemberFrame::Object { at, members }))?;
+    stack.open(Frame::Member(MemberFrame::Object { at, members }))?;
     Ok(Control::Member(MemberDue::Member))
 }
 

@@ -12,8 +12,8 @@ ghost use Rattle.js_parser.specs.Shows.{Shows};
 
 use es_model::Statement;
 use parser_forms::{
-    Control, Frame, ItemFrame, ItemTree, Items, Kept, ListRole, Stack, StatementDue,
-    StatementFrame, Statements, and_item, and_statement, choice, exported_item, for_loop, lose,
+    Control, Frame, ItemFrame, ItemTree, Items, Kept, ListRole, Lose, Stack, StatementDue,
+    StatementFrame, Statements, and_item, and_statement, choice, exported_item, for_loop,
     plain_item, while_loop,
 };
 use std::alloc::{AllocError, Global};
@@ -34,10 +34,10 @@ pub fn open_form(
 ) -> Result<Control, AllocError>
     ensures { IfOk result (λ c. (c ≡ due) × (stack.new ≡ frame ∷ stack.old)) }
 {
-    match stack.push(frame) {
+    match stack.open(frame) {
         Ok(()) => Ok(due),
         Err(error) => {
-            lose(due);
+            due.lose();
             Err(error)
         }
     }
@@ -65,12 +65,12 @@ pub fn put_item(stack: &mut Stack<Frame>, item: Kept<ItemTree>) -> Result<Contro
     match stack.pop() {
         Some(Frame::Item(ItemFrame::Module { items })) => module_with(stack, items, item),
         Some(other) => {
-            lose(other);
-            lose(item);
+            other.lose();
+            item.lose();
             Ok(Control::Fail)
         }
         None => {
-            lose(item);
+            item.lose();
             Ok(Control::Fail)
         }
     }
@@ -92,7 +92,7 @@ fn list_with(
             Control::Statement,
         ),
         Err(error) => {
-            lose(role);
+            role.lose();
             Err(error)
         }
     }
@@ -133,8 +133,8 @@ fn put_in_statement(
             body: line,
         }))),
         other => {
-            lose(other);
-            lose(line);
+            other.lose();
+            line.lose();
             Ok(Placed::Stands(Control::Fail))
         }
     }
@@ -153,8 +153,8 @@ fn put_in_item(
         }
         ItemFrame::Export => Ok(Placed::Stands(put_item(stack, exported_item(line))?)),
         other => {
-            lose(other);
-            lose(line);
+            other.lose();
+            line.lose();
             Ok(Placed::Stands(Control::Fail))
         }
     }
@@ -172,8 +172,8 @@ fn put_in(
         Frame::Statement(frame) => put_in_statement(alloc, stack, frame, line),
         Frame::Item(frame) => put_in_item(stack, frame, line),
         other => {
-            lose(other);
-            lose(line);
+            other.lose();
+            line.lose();
             Ok(Placed::Stands(Control::Fail))
         }
     }
@@ -195,6 +195,6 @@ pub fn put(
             Placed::Complete(next) => line = next,
         }
     }
-    lose(line);
+    line.lose();
     Ok(Control::Fail)
 }

@@ -12,7 +12,7 @@ ghost use Rattle.js_parser.specs.declared.fault.ParseFault.TheVariants as fault;
 use crate::fault::ParseFault;
 use crate::step::step;
 use es_model::{Module, Token, Tokens};
-use parser_forms::{Control, Frame, ItemFrame, Items, Kept, Stack, lose, no_items};
+use parser_forms::{Control, Frame, Items, Kept, Lose, Stack};
 use std::alloc::Global;
 
 fn has_failed(control: &Control) -> bool
@@ -38,7 +38,7 @@ fn last_module(control: Control, place: u32) -> Result<Module, ParseFault>
     match control {
         Control::Done(items) => kept_module(items),
         other => {
-            lose(other);
+            other.lose();
             Err(ParseFault::Syntax(place))
         }
     }
@@ -55,7 +55,7 @@ fn read(alloc: Global, stack: &mut Stack<Frame>, tokens: &[Token]) -> Result<Mod
     for token in tokens {
         control = step(alloc, stack, control, token)?;
         if has_failed(&control) {
-            lose(control);
+            control.lose();
             return Err(ParseFault::Syntax(place));
         }
         place += 1;
@@ -73,11 +73,8 @@ pub fn module(alloc: Global, tokens: &Tokens) -> Result<Module, ParseFault>
     requires ends { EndsLast tokens.now }
     ensures { Answers tokens.now result }
 {
-    let mut stack = Stack::new(alloc);
-    stack.push(Frame::Item(ItemFrame::Module {
-        items: no_items(alloc),
-    }))?;
+    let mut stack = Stack::of_module(alloc)?;
     let module = read(alloc, &mut stack, tokens.as_slice());
-    lose(stack);
+    stack.lose();
     module
 }

@@ -13,7 +13,7 @@ use crate::member_ends::{end_in_item, end_in_member};
 use crate::statement_ends::end_in_statement;
 use crate::tables::goes_on_in;
 use es_model::Token;
-use parser_forms::{Control, Frame, Part, Stack, Word, lose, word_of_kind};
+use parser_forms::{Control, Frame, Lose, Part, Stack, Word, word_of_kind};
 use std::alloc::{AllocError, Global};
 
 fn close_form(
@@ -47,10 +47,10 @@ fn go_on(
 ) -> Result<Control, AllocError>
     ensures { IfOk result (λ c. Shows (s.taken_by part (frame ∷ stack.old) (t.infix_of word) (t.assignment_of word) word) c stack.new) }
 {
-    match stack.push(frame) {
+    match stack.open(frame) {
         Ok(()) => taken(alloc, stack, part, word),
         Err(error) => {
-            lose(part);
+            part.lose();
             Err(error)
         }
     }
@@ -76,6 +76,6 @@ pub fn settle(
             Closed::Done(control) => return Ok(control),
         }
     }
-    lose(part);
+    part.lose();
     Ok(Control::Fail)
 }

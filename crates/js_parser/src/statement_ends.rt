@@ -17,9 +17,9 @@ use crate::puts::{open_form, put};
 use crate::tables::may_miss;
 use es_model::{Expression, Identifier, Semi, Statement, Token};
 use parser_forms::{
-    Control, Declarators, DeclareRole, Frame, HeadTree, Kept, ListRole, Opening, Part, Stack,
-    StatementDue, StatementFrame, Word, and_declarator, declarator, head_value, lose,
-    no_statements, return_statement, throw, value, word_of_kind,
+    Control, Declarators, DeclareRole, Frame, HeadTree, Kept, ListRole, Lose, Opening, Part, Stack,
+    StatementDue, StatementFrame, Word, and_declarator, declarator, head_value, no_statements,
+    return_statement, throw, value, word_of_kind,
 };
 use std::alloc::{AllocError, Global};
 
@@ -39,7 +39,7 @@ fn end_value(
             if may_miss(word, token.line_before) {
                 close(alloc, stack, value(alloc, of, Semi::Missing)?, token)
             } else {
-                lose(of);
+                of.lose();
                 Ok(Control::Fail)
             }
         }
@@ -47,7 +47,7 @@ fn end_value(
 }
 
 /// The value of a `return`, or none.
-pub fn end_return(
+fn end_return(
     alloc: Global,
     stack: &mut Stack<Frame>,
     at: u32,
@@ -68,7 +68,7 @@ pub fn end_return(
                 let line = return_statement(alloc, at, of, Semi::Missing)?;
                 close(alloc, stack, line, token)
             } else {
-                lose(of);
+                of.lose();
                 Ok(Control::Fail)
             }
         }
@@ -90,7 +90,7 @@ fn end_throw(
             if may_miss(word, token.line_before) {
                 close(alloc, stack, throw(alloc, of, Semi::Missing)?, token)
             } else {
-                lose(of);
+                of.lose();
                 Ok(Control::Fail)
             }
         }
@@ -129,7 +129,7 @@ fn and_name(
     match declarator(alloc, name, Some(of)) {
         Ok(last) => and_declarator(names, last),
         Err(error) => {
-            lose(names);
+            names.lose();
             Err(error)
         }
     }
@@ -163,7 +163,7 @@ fn end_test(
     match word {
         Word::RightParen => opening_due(stack, opening, part),
         _ => {
-            lose(part);
+            part.lose();
             Ok(Control::Fail)
         }
     }
@@ -178,8 +178,8 @@ fn end_do_test(body: Kept<Statement>, part: Part, word: Word) -> Control
             test: part.into_kept(),
         }),
         _ => {
-            lose(body);
-            lose(part);
+            body.lose();
+            part.lose();
             Control::Fail
         }
     }
@@ -194,7 +194,7 @@ fn end_for_value(alloc: Global, part: Part, word: Word) -> Result<Control, Alloc
             Ok(Control::StatementPart(StatementDue::ForTest { head }))
         }
         _ => {
-            lose(part);
+            part.lose();
             Ok(Control::Fail)
         }
     }
@@ -209,8 +209,8 @@ fn end_for_test(head: Kept<HeadTree>, part: Part, word: Word) -> Control
             test: Some(part.into_kept()),
         }),
         _ => {
-            lose(head);
-            lose(part);
+            head.lose();
+            part.lose();
             Control::Fail
         }
     }
@@ -232,9 +232,9 @@ fn end_for_step(
             open_form(stack, frame, Control::Statement)
         }
         _ => {
-            lose(head);
-            lose(test);
-            lose(part);
+            head.lose();
+            test.lose();
+            part.lose();
             Ok(Control::Fail)
         }
     }
@@ -258,7 +258,7 @@ fn end_case_test(
             open_form(stack, frame, Control::Statement)
         }
         _ => {
-            lose(part);
+            part.lose();
             Ok(Control::Fail)
         }
     }
@@ -301,8 +301,8 @@ pub fn end_in_statement(
         StatementFrame::Throw => end_throw(alloc, stack, part.into_kept(), token),
         StatementFrame::CaseTest => end_case_test(alloc, stack, part, word),
         other => {
-            lose(other);
-            lose(part);
+            other.lose();
+            part.lose();
             Ok(Control::Fail)
         }
     }

@@ -20,8 +20,9 @@ use crate::tables::{is_semicolon, may_miss_bare};
 use crate::texts::identifier;
 use es_model::{Expression, Identifier, Semi, Statement, StatementForm, Token, TokenKind};
 use parser_forms::{
-    Control, Frame, Jump, Kept, ListRole, Opening, Stack, StatementDue, StatementFrame, Statements,
-    Word, bare, choice, guarded, lose, no_cases, no_statements, return_statement, word_of_kind,
+    Control, Frame, Jump, Kept, ListRole, Lose, Opening, Stack, StatementDue, StatementFrame,
+    Statements, Word, bare, choice, guarded, no_cases, no_statements, return_statement,
+    word_of_kind,
 };
 use std::alloc::{AllocError, Global};
 
@@ -76,7 +77,7 @@ pub fn statement_step(
 pub fn operand_in(stack: &mut Stack<Frame>, frame: StatementFrame) -> Result<Control, AllocError>
     ensures { IfOk result (λ c. Shows (operand_due (f.Statement frame ∷ stack.old)) c stack.new) }
 {
-    stack.push(Frame::Statement(frame))?;
+    stack.open(Frame::Statement(frame))?;
     Ok(Control::Operand)
 }
 
@@ -84,7 +85,7 @@ pub fn operand_in(stack: &mut Stack<Frame>, frame: StatementFrame) -> Result<Con
 pub fn statement_in(stack: &mut Stack<Frame>, frame: StatementFrame) -> Result<Control, AllocError>
     ensures { IfOk result (λ c. Shows (statement_due (f.Statement frame ∷ stack.old)) c stack.new) }
 {
-    stack.push(Frame::Statement(frame))?;
+    stack.open(Frame::Statement(frame))?;
     Ok(Control::Statement)
 }
 
@@ -117,7 +118,7 @@ fn brace_due(
             statement_in(stack, StatementFrame::List { role, statements })
         }
         _ => {
-            lose(role);
+            role.lose();
             Ok(Control::Fail)
         }
     }
@@ -151,7 +152,7 @@ fn switch_brace(
 {
     match word_of_kind(&token.kind) {
         Word::LeftBrace => {
-            stack.push(Frame::Statement(StatementFrame::Switch {
+            stack.open(Frame::Statement(StatementFrame::Switch {
                 value: of,
                 cases: no_cases(alloc),
                 has_default: false,
@@ -159,7 +160,7 @@ fn switch_brace(
             Ok(Control::StatementPart(StatementDue::Case))
         }
         _ => {
-            lose(of);
+            of.lose();
             Ok(Control::Fail)
         }
     }
@@ -255,7 +256,7 @@ fn return_due(
     if is_semicolon(word) || may_miss_bare(word, token.line_before) {
         return return_end(alloc, stack, at, token);
     }
-    stack.push(Frame::Statement(StatementFrame::Return { at }))?;
+    stack.open(Frame::Statement(StatementFrame::Return { at }))?;
     operand(alloc, stack, token)
 }
 
@@ -266,7 +267,7 @@ fn throw_due(alloc: Global, stack: &mut Stack<Frame>, token: &Token) -> Result<C
     if token.line_before {
         return Ok(Control::Fail);
     }
-    stack.push(Frame::Statement(StatementFrame::Throw))?;
+    stack.open(Frame::Statement(StatementFrame::Throw))?;
     operand(alloc, stack, token)
 }
 
@@ -284,7 +285,7 @@ fn guard_due(stack: &Stack<Frame>, block: Kept<Statements>, token: &Token) -> Co
             catch: None,
         })),
         _ => {
-            lose(block);
+            block.lose();
             Control::Fail
         }
     }
@@ -307,7 +308,7 @@ fn catch_due(
             statement_in(stack, StatementFrame::List { role, statements })
         }
         _ => {
-            lose(block);
+            block.lose();
             Ok(Control::Fail)
         }
     }
@@ -325,12 +326,12 @@ fn catch_name(
         TokenKind::Name(text) => match identifier(alloc, token.at, text) {
             Ok(name) => Ok(Control::StatementPart(StatementDue::CatchClose { block, name })),
             Err(error) => {
-                lose(block);
+                block.lose();
                 Err(error)
             }
         },
         _ => {
-            lose(block);
+            block.lose();
             Ok(Control::Fail)
         }
     }
@@ -351,7 +352,8 @@ fn catch_close(
             name: Some(own),
         })),
         _ => {
-            lose((block, own));
+            block.lose();
+            own.lose();
             Control::Fail
         }
     }

@@ -13,7 +13,7 @@ use crate::operands::operand;
 use crate::settle::settle;
 use crate::statement_steps::statement_step;
 use es_model::Token;
-use parser_forms::{Control, Frame, Stack, lose};
+use parser_forms::{Control, Frame, Lose, Stack};
 use std::alloc::{AllocError, Global};
 
 /// One token. A state that failed, or in which the module is complete, takes none. The one error is want of
@@ -36,7 +36,7 @@ pub fn step(
         Control::StatementPart(due) => statement_step(alloc, stack, due, token),
         Control::Item(due) => item_step(alloc, stack, due, token),
         Control::Done(items) => {
-            lose(items);
+            items.lose();
             Ok(Control::Fail)
         }
     }

@@ -11,7 +11,7 @@ use std::alloc::{AllocError, Global};
 
 /// Lets a value go. What holds a tree is let go by this call, so that the proof of a caller has no more
 /// than the call at each of its ends.
-pub fn lose<T: Drop>(_value: T) {}
+pub(crate) fn lose<T: Drop>(_value: T) {}
 
 /// One level of nesting more, up to 65.
 pub fn raise(nesting: u8) -> u8

@@ -6,7 +6,7 @@ ghost use Rattle.es_model.specs.View.{key_of};
 ghost use Rattle.parser_forms.specs.Parts as p;
 
 use crate::frame::KeyPart;
-use crate::keeping::{both, box_beside, counted_box};
+use crate::keeping::{both, box_beside};
 use crate::parts::{Kept, Part};
 use crate::texts::is_text;
 use crate::trees::{FunctionTree, KeyTree, MemberTree};

@@ -1,8 +1,7 @@
 //! What is kept of expressions with operators, form by form (ECMA-262, 13.4 to 13.16).
 
-ghost use Rattle.std.specs.Prelude.{◌≡◌, [], ◌∷◌, ◌++◌, Bool, IfOk, false};
+ghost use Rattle.std.specs.Prelude.{◌≡◌, [], ◌∷◌, ◌++◌, IfOk, false};
 ghost use Rattle.es_model.specs.Levels as levels;
-ghost use Rattle.es_model.specs.Tree as t;
 ghost use Rattle.parser_forms.specs.declared.parts.Heading.TheVariants as headings;
 ghost use Rattle.parser_forms.specs.Kept.{both as side_by_side, counted as one_more};
 ghost use Rattle.parser_forms.specs.Parts as p;

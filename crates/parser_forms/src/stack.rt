@@ -1,6 +1,11 @@
-ghost use Rattle.std.specs.Prelude.{◌≡◌, List, [], ◌∷◌, MatchOption};
+ghost use Rattle.std.specs.Prelude.{◌≡◌, List, [], ◌∷◌, MatchOption, IfOk};
 ghost use Rattle.std.specs.Result.{OnOk, OnErr};
+ghost use Rattle.parser_forms.specs.Kept.{none};
+ghost use Rattle.parser_forms.specs.declared.frame.Frame.TheVariants as f;
+ghost use Rattle.parser_forms.specs.declared.frame.ItemFrame.TheVariants as n;
 
+use crate::frame::{Frame, ItemFrame};
+use crate::lists::no_items;
 use std::alloc::{AllocError, Global};
 use std::marker::Model;
 
@@ -57,5 +62,26 @@ impl<T: Drop> Stack<T> {
     {
         self.items.push(item)?;
         Ok(())
+    }
+}
+
+impl Stack<Frame> {
+    /// The one open form of a module of which nothing was read. The one error is want of memory.
+    pub fn of_module(alloc: Global) -> Result<Stack<Frame>, AllocError>
+        ensures { IfOk result (λ made. made ≡ f.Item (n.Module none) ∷ []) }
+    {
+        let mut stack = Stack::new(alloc);
+        let items = no_items(alloc);
+        stack.open(Frame::Item(ItemFrame::Module { items }))?;
+        Ok(stack)
+    }
+
+    /// Puts a form on top, which is open from then on. The one error is want of memory: it leaves the
+    /// stack as it was, and the form is dropped.
+    pub fn open(&mut self, frame: Frame) -> Result<(), AllocError>
+        ensures ok { OnOk result (self.new ≡ frame ∷ self.old) }
+        ensures err { OnErr result (self.new ≡ self.old) }
+    {
+        self.push(frame)
     }
 }

@@ -1,6 +1,9 @@
 //! Each call once, with values from the lists of words and from the rules of nesting.
 
-use crate::{Kept, Literal, Part, Stack, Word, literal, paren, raise, word_of_kind};
+use crate::{
+    Frame, ItemFrame, Kept, Literal, Part, Stack, StatementFrame, Word, literal, paren, raise,
+    word_of_kind,
+};
 use es_model::TokenKind;
 use std::alloc::AllocError;
 use std::test::Fail;
@@ -45,9 +48,11 @@ fn number_in_parentheses(rt: HostRuntime) -> Result<(), AllocError> {
 #[test]
 fn last_in_first_out(rt: HostRuntime) -> Result<(), AllocError> {
     let mut stack = Stack::new(rt.alloc());
-    stack.push(1u8)?;
-    stack.push(2u8)?;
-    let popped = (stack.pop(), stack.pop(), stack.pop());
-    assert_eq!(rt; popped, (Some(2), Some(1), None));
+    stack.push(Frame::Item(ItemFrame::Export))?;
+    stack.push(Frame::Statement(StatementFrame::Do))?;
+    assert!(rt; matches!(stack.top(), Some(Frame::Statement(StatementFrame::Do))));
+    assert!(rt; matches!(stack.pop(), Some(Frame::Statement(StatementFrame::Do))));
+    assert!(rt; matches!(stack.pop(), Some(Frame::Item(ItemFrame::Export))));
+    assert!(rt; matches!(stack.pop(), None));
     Ok(())
 }
