@@ -14,10 +14,10 @@ ghost use Rattle.js_parser.specs.Shows.{Shows};
 use crate::puts::{open_form, put, put_item};
 use es_model::{Expression, FunctionKind, Identifier, MemberKind, TreeList};
 use parser_forms::{
-    ClassStart, ClassTree, Control, Frame, ItemFrame, Kept, ListRole, Lose, MemberDue, MemberFrame,
-    MemberStart, MemberTree, Members, Role, Signature, Stack, StatementFrame, Statements,
-    and_member, class, class_expression, class_statement, default_class, default_function,
-    function, function_expression, function_member, function_statement,
+    ClassStart, ClassTree, Control, Frame, Kept, Lose, MemberDue, MemberFrame, MemberStart,
+    MemberTree, Members, Role, Signature, Stack, Statements, and_member, class, class_expression,
+    class_statement, default_class, default_function, function, function_expression,
+    function_member, function_statement,
 };
 use std::alloc::{AllocError, Global};
 

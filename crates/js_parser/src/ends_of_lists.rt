@@ -14,11 +14,11 @@ ghost use Rattle.js_parser.specs.Shows.{Shows};
 
 use crate::ends_of_functions::function_end;
 use crate::puts::{open_form, put};
-use es_model::{Expression, FunctionKind, Identifier, MemberKind, TreeList};
+use es_model::{Expression, FunctionKind, Identifier, TreeList};
 use parser_forms::{
-    CaseTree, Cases, Control, Frame, ItemFrame, Items, Kept, ListRole, Lose, MemberFrame, Part,
-    Signature, Stack, StatementDue, StatementFrame, Statements, Word, and_case, arrow_expression,
-    block, case, class, function, guarded, switch,
+    CaseTree, Cases, Control, Frame, ItemFrame, Items, Kept, ListRole, Lose, Part, Stack,
+    StatementDue, StatementFrame, Statements, Word, and_case, arrow_expression, block, case, class,
+    function, guarded, switch,
 };
 use std::alloc::{AllocError, Global};
 

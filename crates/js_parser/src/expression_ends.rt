@@ -13,14 +13,13 @@ ghost use Rattle.js_parser.specs.Closes.{Closes};
 ghost use Rattle.js_parser.specs.Shows.{Shows};
 
 use crate::operands::opened;
-use crate::tables::{is_base, is_new_callee};
 use es_model::{Token, TokenKind, TreeList};
 use js_value::Units;
 use parser_forms::{
     Callee, Control, ExpressionFrame, Expressions, Frame, Kept, Lose, Part, Stack, Word,
-    and_expression, array, arrow, assign, bare_new, called, conditional, copy_of, index,
-    no_expressions, operation, paren, prefix_form, super_index, template, update_before,
-    word_of_kind,
+    and_expression, array, arrow, assign, bare_new, called, conditional, copy_of, index, is_base,
+    is_new_callee, no_expressions, operation, paren, prefix_form, super_index, template,
+    update_before, word_of_kind,
 };
 use std::alloc::{AllocError, Global};
 

@@ -11,11 +11,10 @@ ghost use Rattle.parser_forms.specs.declared.frame.Frame.TheVariants as f;
 ghost use Rattle.js_parser.specs.Shows.{Shows};
 
 use crate::operands::{list_of_one, opened};
-use crate::tables::{assignment_of, infix_of, is_base, is_left_of};
 use es_model::{BinaryOperator, Identifier, TreeList};
 use parser_forms::{
     Callee, Control, ExpressionDue, ExpressionFrame, Frame, Heading, Infix, Lose, Part, Stack,
-    Word, no_expressions, update_behind,
+    Word, assignment_of, infix_of, is_base, is_left_of, no_expressions, update_behind,
 };
 use std::alloc::{AllocError, Global};
 

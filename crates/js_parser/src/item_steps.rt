@@ -13,13 +13,12 @@ use crate::begins::declaration;
 use crate::closes::close_item;
 use crate::operands::operand;
 use crate::puts::put_item;
-use crate::tables::may_miss;
 use crate::texts::{identifier, text_of};
 use es_model::{Identifier, Item, Pair, Semi, Token, TokenKind, TreeList};
 use js_value::Units;
 use parser_forms::{
     Control, Frame, ItemDue, ItemFrame, ItemTree, Kept, Lose, MemberDue, PairRole, Role, Stack,
-    Word, copy_of, is_text, same_name, word_of_kind,
+    Word, copy_of, is_text, may_miss, same_name, word_of_kind,
 };
 use std::alloc::{AllocError, Global};
 

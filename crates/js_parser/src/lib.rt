@@ -24,7 +24,6 @@ mod settle;
 mod statement_ends;
 mod statement_steps;
 mod step;
-mod tables;
 mod texts;
 
 pub use fault::ParseFault;

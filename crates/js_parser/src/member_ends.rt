@@ -13,11 +13,11 @@ ghost use Rattle.js_parser.specs.Shows.{Shows};
 use crate::closes::close_item;
 use crate::object_ends::object_next;
 use crate::puts::{open_form, put_item};
-use crate::tables::may_miss;
 use es_model::{Expression, Identifier, MemberKind, Semi, Token};
 use parser_forms::{
     ClassStart, Control, Frame, ItemFrame, Kept, Lose, MemberDue, MemberFrame, MemberStart, Part,
-    Role, Stack, Word, computed_key, default_value, no_members, value_member, word_of_kind,
+    Role, Stack, Word, computed_key, default_value, may_miss, no_members, value_member,
+    word_of_kind,
 };
 use std::alloc::{AllocError, Global};
 

@@ -13,12 +13,11 @@ ghost use Rattle.js_parser.specs.Shows.{Shows};
 use crate::closes::close;
 use crate::puts::put;
 use crate::statement_steps::operand_in;
-use crate::tables::may_miss;
 use crate::texts::identifier;
 use es_model::{Identifier, Semi, Token, TokenKind};
 use parser_forms::{
     Control, Declarators, DeclareRole, Frame, Kept, Lose, Stack, StatementDue, StatementFrame,
-    Word, and_declarator, declarator, declare, head_declare, word_of_kind,
+    Word, and_declarator, declarator, declare, head_declare, may_miss, word_of_kind,
 };
 use std::alloc::{AllocError, Global};
 

@@ -13,14 +13,13 @@ ghost use Rattle.parser_forms.specs.declared.frame.MemberFrame.TheVariants as m;
 ghost use Rattle.es_model.specs.declared.token.TokenKind.TheVariants as k;
 ghost use Rattle.js_parser.specs.Shows.{Shows};
 
-use crate::tables::{prefix_of, slot};
 use crate::texts::identifier;
 use es_model::{Identifier, Token, TokenKind, TreeList};
 use js_value::Units;
 use parser_forms::{
     Control, ExpressionDue, ExpressionFrame, Frame, Heading, Infix, Literal, Lose, MemberDue,
     MemberFrame, Part, Prefix, Role, Stack, Word, array, called, copy_of, literal, name,
-    no_expressions, no_members, template, word_of_kind,
+    no_expressions, no_members, prefix_of, slot, template, word_of_kind,
 };
 use std::alloc::{AllocError, Global};
 

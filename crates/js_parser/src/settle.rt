@@ -11,9 +11,8 @@ use crate::expression_ends::{Closed, close_expression};
 use crate::goings::taken;
 use crate::member_ends::{end_in_item, end_in_member};
 use crate::statement_ends::end_in_statement;
-use crate::tables::goes_on_in;
 use es_model::Token;
-use parser_forms::{Control, Frame, Lose, Part, Stack, Word, word_of_kind};
+use parser_forms::{Control, Frame, Lose, Part, Stack, Word, goes_on_in, word_of_kind};
 use std::alloc::{AllocError, Global};
 
 fn close_form(

@@ -14,12 +14,11 @@ ghost use Rattle.js_parser.specs.Shows.{Shows};
 use crate::closes::close;
 use crate::name_steps::names_end;
 use crate::puts::{open_form, put};
-use crate::tables::may_miss;
 use es_model::{Expression, Identifier, Semi, Statement, Token};
 use parser_forms::{
     Control, Declarators, DeclareRole, Frame, HeadTree, Kept, ListRole, Lose, Opening, Part, Stack,
-    StatementDue, StatementFrame, Word, and_declarator, declarator, head_value, no_statements,
-    return_statement, throw, value, word_of_kind,
+    StatementDue, StatementFrame, Word, and_declarator, declarator, head_value, may_miss,
+    no_statements, return_statement, throw, value, word_of_kind,
 };
 use std::alloc::{AllocError, Global};
 

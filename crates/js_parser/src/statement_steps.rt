@@ -16,13 +16,12 @@ use crate::loop_steps::{do_end, do_open, do_while, for_head, for_open, for_step,
 use crate::name_steps::{name_due, name_next};
 use crate::operands::operand;
 use crate::puts::put;
-use crate::tables::{is_semicolon, may_miss_bare};
 use crate::texts::identifier;
 use es_model::{Expression, Identifier, Semi, Statement, StatementForm, Token, TokenKind};
 use parser_forms::{
     Control, Frame, Jump, Kept, ListRole, Lose, Opening, Stack, StatementDue, StatementFrame,
-    Statements, Word, bare, choice, guarded, no_cases, no_statements, return_statement,
-    word_of_kind,
+    Statements, Word, bare, choice, guarded, is_semicolon, may_miss_bare, no_cases, no_statements,
+    return_statement, word_of_kind,
 };
 use std::alloc::{AllocError, Global};
 

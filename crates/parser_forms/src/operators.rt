@@ -1,7 +1,6 @@
 //! What is kept of expressions with operators, form by form (ECMA-262, 13.4 to 13.16).
 
 ghost use Rattle.std.specs.Prelude.{◌≡◌, [], ◌∷◌, ◌++◌, IfOk, false};
-ghost use Rattle.es_model.specs.Levels as levels;
 ghost use Rattle.parser_forms.specs.declared.parts.Heading.TheVariants as headings;
 ghost use Rattle.parser_forms.specs.Kept.{both as side_by_side, counted as one_more};
 ghost use Rattle.parser_forms.specs.Parts as p;
@@ -10,6 +9,7 @@ use crate::frame::{Infix, Prefix};
 use crate::keeping::{both, counted, counted_box, lose, push, three_boxes, two_boxes};
 use crate::operands::plain;
 use crate::parts::{Heading, Kept, Part};
+use crate::tables::infix_level;
 use es_model::{BinaryOperator, Expression, ExpressionForm, Identifier, TreeList};
 use std::alloc::{AllocError, Global};
 
@@ -78,48 +78,6 @@ pub fn prefix_form(alloc: Global, operator: Prefix, at: u32, part: Part) -> Resu
         None => None,
     };
     Ok(plain(Kept { tree, nesting }, at, 15))
-}
-
-fn operator_level(operator: BinaryOperator) -> u8
-    ensures { result ≡ levels.operator_level operator }
-{
-    match operator {
-        BinaryOperator::Add => 12,
-        BinaryOperator::Subtract => 12,
-        BinaryOperator::Multiply => 13,
-        BinaryOperator::Divide => 13,
-        BinaryOperator::Remainder => 13,
-        BinaryOperator::Power => 14,
-        BinaryOperator::BitAnd => 8,
-        BinaryOperator::BitOr => 6,
-        BinaryOperator::BitXor => 7,
-        BinaryOperator::ShiftLeft => 11,
-        BinaryOperator::ShiftRight => 11,
-        BinaryOperator::ShiftRightUnsigned => 11,
-        BinaryOperator::Less => 10,
-        BinaryOperator::Greater => 10,
-        BinaryOperator::LessOrEqual => 10,
-        BinaryOperator::GreaterOrEqual => 10,
-        BinaryOperator::Equal => 9,
-        BinaryOperator::NotEqual => 9,
-        BinaryOperator::StrictEqual => 9,
-        BinaryOperator::StrictNotEqual => 9,
-    }
-}
-
-/// The level of the form that an operator makes.
-pub fn infix_level(operator: Infix) -> u8
-    ensures { result ≡ p.infix_level operator }
-{
-    match operator {
-        Infix::Binary(operator) => operator_level(operator),
-        Infix::In => 10,
-        Infix::InstanceOf => 10,
-        Infix::And => 5,
-        Infix::Or => 4,
-        Infix::Nullish => 4,
-        Infix::Comma => 1,
-    }
 }
 
 fn infix_tree(operator: Infix, left: Box<Expression>, right: Box<Expression>) -> Expression

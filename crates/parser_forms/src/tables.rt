@@ -7,11 +7,11 @@ ghost use Rattle.parser_forms.specs.declared.frame.Frame.TheVariants as f;
 ghost use Rattle.parser_forms.specs.Parts.{infix_level};
 ghost use Rattle.parser_forms.specs.Tables as t;
 
+use crate::frame::{ExpressionFrame, Frame, Infix, ItemFrame, MemberFrame, Prefix, StatementFrame};
+use crate::parts::Part;
+use crate::stack::Stack;
+use crate::words::Word;
 use es_model::{BinaryOperator, UnaryOperator};
-use parser_forms::{
-    ExpressionFrame, Frame, Infix, ItemFrame, MemberFrame, Part, Prefix, Stack, StatementFrame,
-    Word,
-};
 
 /// The operator between two operands that a word is.
 pub fn infix_of(word: Word) -> Option<Infix>
@@ -110,7 +110,8 @@ fn operator_level(operator: BinaryOperator) -> u8
     }
 }
 
-fn infix_level(operator: Infix) -> u8
+/// The level of the form that an operator makes.
+pub fn infix_level(operator: Infix) -> u8
     ensures { result ≡ infix_level operator }
 {
     match operator {
