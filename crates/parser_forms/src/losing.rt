@@ -21,55 +21,230 @@ pub trait Lose {
     fn lose(self);
 }
 
-macro_rules! let_go {
-    ($($kind:ty),* $(,)?) => {
-        $(
-            impl Lose for $kind {
-                fn lose(self) {
-                    lose(self)
-                }
-            }
-        )*
-    };
+impl Lose for Callee {
+    fn lose(self) {
+        lose(self)
+    }
 }
 
-let_go! {
-    Callee,
-    ClassStart,
-    Control,
-    ExpressionFrame,
-    Frame,
-    Heading,
-    Identifier,
-    ItemDue,
-    ItemFrame,
-    Kept<Cases>,
-    Kept<ClassTree>,
-    Kept<Declarators>,
-    Kept<Expression>,
-    Kept<Expressions>,
-    Kept<HeadTree>,
-    Kept<ItemTree>,
-    Kept<Items>,
-    Kept<KeyTree>,
-    Kept<MemberTree>,
-    Kept<Members>,
-    Kept<Statement>,
-    Kept<Statements>,
-    KeyTree,
-    ListRole,
-    MemberDue,
-    MemberFrame,
-    MemberStart,
-    Option<Identifier>,
-    Option<Kept<Expression>>,
-    Part,
-    Signature,
-    Stack<Frame>,
-    StatementDue,
-    StatementFrame,
-    TreeList<Identifier>,
-    TreeList<Pair>,
-    TreeList<Units>,
-    Units,
+impl Lose for ClassStart {
+    fn lose(self) {
+        lose(self)
+    }
+}
+
+impl Lose for Control {
+    fn lose(self) {
+        lose(self)
+    }
+}
+
+impl Lose for ExpressionFrame {
+    fn lose(self) {
+        lose(self)
+    }
+}
+
+impl Lose for Frame {
+    fn lose(self) {
+        lose(self)
+    }
+}
+
+impl Lose for Heading {
+    fn lose(self) {
+        lose(self)
+    }
+}
+
+impl Lose for Identifier {
+    fn lose(self) {
+        lose(self)
+    }
+}
+
+impl Lose for ItemDue {
+    fn lose(self) {
+        lose(self)
+    }
+}
+
+impl Lose for ItemFrame {
+    fn lose(self) {
+        lose(self)
+    }
+}
+
+impl Lose for Kept<Cases> {
+    fn lose(self) {
+        lose(self)
+    }
+}
+
+impl Lose for Kept<ClassTree> {
+    fn lose(self) {
+        lose(self)
+    }
+}
+
+impl Lose for Kept<Declarators> {
+    fn lose(self) {
+        lose(self)
+    }
+}
+
+impl Lose for Kept<Expression> {
+    fn lose(self) {
+        lose(self)
+    }
+}
+
+impl Lose for Kept<Expressions> {
+    fn lose(self) {
+        lose(self)
+    }
+}
+
+impl Lose for Kept<HeadTree> {
+    fn lose(self) {
+        lose(self)
+    }
+}
+
+impl Lose for Kept<ItemTree> {
+    fn lose(self) {
+        lose(self)
+    }
+}
+
+impl Lose for Kept<Items> {
+    fn lose(self) {
+        lose(self)
+    }
+}
+
+impl Lose for Kept<KeyTree> {
+    fn lose(self) {
+        lose(self)
+    }
+}
+
+impl Lose for Kept<MemberTree> {
+    fn lose(self) {
+        lose(self)
+    }
+}
+
+impl Lose for Kept<Members> {
+    fn lose(self) {
+        lose(self)
+    }
+}
+
+impl Lose for Kept<Statement> {
+    fn lose(self) {
+        lose(self)
+    }
+}
+
+impl Lose for Kept<Statements> {
+    fn lose(self) {
+        lose(self)
+    }
+}
+
+impl Lose for KeyTree {
+    fn lose(self) {
+        lose(self)
+    }
+}
+
+impl Lose for ListRole {
+    fn lose(self) {
+        lose(self)
+    }
+}
+
+impl Lose for MemberDue {
+    fn lose(self) {
+        lose(self)
+    }
+}
+
+impl Lose for MemberFrame {
+    fn lose(self) {
+        lose(self)
+    }
+}
+
+impl Lose for MemberStart {
+    fn lose(self) {
+        lose(self)
+    }
+}
+
+impl Lose for Option<Identifier> {
+    fn lose(self) {
+        lose(self)
+    }
+}
+
+impl Lose for Option<Kept<Expression>> {
+    fn lose(self) {
+        lose(self)
+    }
+}
+
+impl Lose for Part {
+    fn lose(self) {
+        lose(self)
+    }
+}
+
+impl Lose for Signature {
+    fn lose(self) {
+        lose(self)
+    }
+}
+
+impl Lose for Stack<Frame> {
+    fn lose(self) {
+        lose(self)
+    }
+}
+
+impl Lose for StatementDue {
+    fn lose(self) {
+        lose(self)
+    }
+}
+
+impl Lose for StatementFrame {
+    fn lose(self) {
+        lose(self)
+    }
+}
+
+impl Lose for TreeList<Identifier> {
+    fn lose(self) {
+        lose(self)
+    }
+}
+
+impl Lose for TreeList<Pair> {
+    fn lose(self) {
+        lose(self)
+    }
+}
+
+impl Lose for TreeList<Units> {
+    fn lose(self) {
+        lose(self)
+    }
+}
+
+impl Lose for Units {
+    fn lose(self) {
+        lose(self)
+    }
 }
