@@ -236,10 +236,10 @@ def kind_codes():
 
 CODES_HEAD = HEAD + '''-- A tree is written as a tree of numbers, which gives it back: by this a proof tells trees apart.
 use Rattle.std.specs.Prelude.{◌≡◌, ℕ, zero, suc, Bool, List, Option, refl}
-use Rattle.std.proofs.Common.{arith}
 use Rattle.std.specs.Coded.{Coded, coded_ℕ, coded_ℤ, coded_bool, coded_list, coded_option}
 use base.Stored.{Gv, gnil, gnum, gcons, num}
-use mathlib.Core.Path.{sym, ◌∙◌, ap}
+use mathlib.Core.Path.{sym, ◌∙◌, ap, subst}
+use lib.Dec.{T, eqb, eqb_refl}
 use lib.IntN.{ℤ}
 use Rattle.es_model.specs.Tree as t
 use Rattle.es_model.specs.Tree.{Tree, Text}
@@ -283,23 +283,27 @@ pairs_code = coded_list pair_code
 abbrev maybe_binary_operator_code : Coded (Option BinaryOperator)
 maybe_binary_operator_code = coded_option binary_operator_code
 
+-- the test of equality passes at equal numbers; at two written numbers that differ it is empty
+equal_pass : {m n : ℕ} → m ≡ n → T (eqb m n)
+equal_pass {m} e = subst (λ n. T (eqb m n)) e (eqb_refl m)
+
 '''
 
 CODES_LISTS = '''once_none : {s : t.Sort} → Once (t.none {s = s})
 once_none t.none p = refl
-once_none _ p = absurd (let e = ap (λ g. num (head g)) p in omega arith)
+once_none _ p = absurd (equal_pass (ap (λ g. num (head g)) p))
 
 once_more : {s : t.Sort} (a : Tree s) (l : Tree (t.list s)) → Once a → Once l → Once (t.more a l)
 once_more a l ra rl (t.more b k) p = λ i. t.more (ra b (ap (λ g. head (tail g)) p) i) (rl k (ap (λ g. tail (tail g)) p) i)
-once_more a l ra rl _ p = absurd (let e = ap (λ g. num (head g)) p in omega arith)
+once_more a l ra rl _ p = absurd (equal_pass (ap (λ g. num (head g)) p))
 
 once_absent : {s : t.Sort} → Once (t.absent {s = s})
 once_absent t.absent p = refl
-once_absent _ p = absurd (let e = ap (λ g. num (head g)) p in omega arith)
+once_absent _ p = absurd (equal_pass (ap (λ g. num (head g)) p))
 
 once_present : {s : t.Sort} (a : Tree s) → Once a → Once (t.present a)
 once_present a ra (t.present b) p = λ i. t.present (ra b (ap tail p) i)
-once_present a ra _ p = absurd (let e = ap (λ g. num (head g)) p in omega arith)
+once_present a ra _ p = absurd (equal_pass (ap (λ g. num (head g)) p))
 
 '''
 
@@ -343,7 +347,7 @@ def once(name, constructor, fields):
     out = f'once_{constructor} : ' + (signature + ' → ' if signature else '') + premises + f'Once {pattern(constructor, fields, prefix="t.")}\n'
     out += f'once_{constructor} {arguments}{pattern(constructor, fields, "b", "t.")} p = {body}\n'
     if len(GRAMMAR[name]) > 1:
-        out += f'once_{constructor} {arguments}_ p = absurd (let e = ap (λ g. num (head g)) p in omega arith)\n'
+        out += f'once_{constructor} {arguments}_ p = absurd (equal_pass (ap (λ g. num (head g)) p))\n'
     return out + '\n'
 
 
