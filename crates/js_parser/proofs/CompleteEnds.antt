@@ -6,9 +6,8 @@ use Rattle.es_model.specs.declared.kinds.Semi.{Semi}
 use Rattle.es_model.specs.declared.kinds.Semi.TheVariants as semi
 use Rattle.es_model.specs.declared.token.Token.{Token}
 use Rattle.es_model.specs.Tree as t
-use Rattle.es_model.specs.Tree.{Tree}
 use Rattle.es_model.specs.Readings as readings
-use Rattle.es_model.specs.Readings.{Tokens, First, One, the, any_of, word, semicolon}
+use Rattle.es_model.specs.Readings.{Tokens, First, the, any_of, word, semicolon}
 use Rattle.parser_forms.specs.declared.words.Word.{Word}
 use Rattle.parser_forms.specs.declared.words.Word.TheVariants as w
 use Rattle.parser_forms.specs.declared.parts.Part.{Part}

@@ -6,7 +6,7 @@ use Rattle.es_model.specs.declared.kinds.FunctionKind.TheVariants as kind
 use Rattle.es_model.specs.declared.names.Identifier.{Identifier}
 use Rattle.es_model.specs.declared.token.Token.{Token}
 use Rattle.es_model.specs.Tree as t
-use Rattle.es_model.specs.Tree.{Tree, Text}
+use Rattle.es_model.specs.Tree.{Tree}
 use Rattle.es_model.specs.Readings.{Tokens, First, the, name, maybe_name, same_line, any_of, word, ◌▸◌}
 use Rattle.es_model.specs.Spelling.{Spells, braces, names, arrow_names, maybe_comma, AsStatement, AsDefault}
 use Rattle.parser_forms.specs.declared.words.Word.{Word}

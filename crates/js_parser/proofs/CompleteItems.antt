@@ -11,7 +11,7 @@ use Rattle.es_model.specs.Tree as t
 use Rattle.es_model.specs.Tree.{Tree, Text}
 use Rattle.es_model.specs.Levels.{is_declaration, ends_in_short_if}
 use Rattle.es_model.specs.Readings as readings
-use Rattle.es_model.specs.Readings.{Tokens, First, One, the, the_name, any_of, is_from, word, semicolon, ◌▸◌}
+use Rattle.es_model.specs.Readings.{Tokens, First, the, the_name, any_of, is_from, word, semicolon, ◌▸◌}
 use Rattle.es_model.specs.Spelling.{Spells, braced, imported, default_name, default_list, import_list, module_name, declaring_word}
 use Rattle.parser_forms.specs.declared.words.Word.{Word}
 use Rattle.parser_forms.specs.declared.words.Word.TheVariants as w

@@ -7,7 +7,7 @@ use Rattle.es_model.specs.Tree as t
 use Rattle.es_model.specs.Tree.{Tree}
 use Rattle.es_model.specs.Levels.{level, all_initialised}
 use Rattle.es_model.specs.Readings as readings
-use Rattle.es_model.specs.Readings.{Tokens, First, One, the, name, word, semicolon, nothing, ◌▸◌}
+use Rattle.es_model.specs.Readings.{Tokens, the, name, word, semicolon, nothing, ◌▸◌}
 use Rattle.es_model.specs.Spelling.{Spells, joined, declaring_word, Initialised, maybe}
 use Rattle.parser_forms.specs.declared.words.Word.{Word}
 use Rattle.parser_forms.specs.declared.words.Word.TheVariants as w

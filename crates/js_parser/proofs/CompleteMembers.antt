@@ -7,7 +7,7 @@ use Rattle.es_model.specs.declared.kinds.MemberKind.TheVariants as m
 use Rattle.es_model.specs.declared.names.Identifier.{Identifier}
 use Rattle.es_model.specs.declared.token.Token.{Token}
 use Rattle.es_model.specs.Tree as t
-use Rattle.es_model.specs.Tree.{Tree, Text}
+use Rattle.es_model.specs.Tree.{Tree}
 use Rattle.es_model.specs.Levels.{level, InObject}
 use Rattle.es_model.specs.Readings.{Tokens, Reading, the, name, nothing, word, ◌▸◌}
 use Rattle.es_model.specs.Spelling.{Spells, braces, member_parameters, member_function_kind, accessor_word, AsMember, object_members}

@@ -6,7 +6,7 @@ use Rattle.es_model.specs.Tree as t
 use Rattle.es_model.specs.Tree.{Tree}
 use Rattle.es_model.specs.Levels.{ends_in_short_if}
 use Rattle.es_model.specs.Readings as readings
-use Rattle.es_model.specs.Readings.{Tokens, First, One, the, word, semicolon, ◌▸◌}
+use Rattle.es_model.specs.Readings.{Tokens, First, the, word}
 use Rattle.es_model.specs.Spelling.{Spells}
 use Rattle.parser_forms.specs.declared.words.Word.{Word}
 use Rattle.parser_forms.specs.declared.words.Word.TheVariants as w

@@ -12,7 +12,6 @@ use Rattle.es_model.specs.declared.token.TokenKind.TheVariants as k
 use Rattle.es_model.specs.Tree.{Text}
 use Rattle.es_model.specs.Readings.{Tokens, Reading, First, nothing, never, ◌▸◌, ◌∣◌, given, One, word, plain_name, the, name, the_name, property, here, same_line, any_of, not_first, semicolon}
 use Rattle.es_model.specs.Spelling as s
-use Rattle.es_model.specs.Spelling.{Semicolons, no_more, one_more}
 use Rattle.js_parser.specs.Parsed.{Shape, shape}
 
 -- tokens of the same kinds and line breaks

@@ -12,7 +12,7 @@ use Rattle.es_model.specs.Tree.{Tree}
 use Rattle.es_model.specs.Levels.{operator_sign, left_level, right_level, assignment_sign, unary_sign, level, is_nullish, is_bare_new, is_declaration, ends_in_short_if, defaults, may_be_fixed, Holder, InObject, InClass}
 use Rattle.es_model.specs.Readings.{Tokens, Reading, never, ◌▸◌, given, here, may_miss, may_miss_bare, may_miss_after_do, may_miss_after_export}
 use Rattle.es_model.specs.Spelling as s
-use Rattle.es_model.specs.Spelling.{Spells, LeftOut, There, FunctionUse, AsExpression, AsStatement, AsDefault, AsMember, spells}
+use Rattle.es_model.specs.Spelling.{Spells, AsExpression, AsStatement, AsDefault, AsMember, spells}
 use Rattle.js_parser.proofs.Moved.{Alike, same_kind, Moves, seq, into, under, impossible, nothing_stays, the_stays, the_name_stays, number_stays, string_stays, property_stays, named, name_moves, here_moves, same_line_moves, not_first_moves, by_shape, semicolon_stays}
 use Rattle.js_parser.proofs.MovedWords.{step_stays, assigning_stays, declaring_word_stays, static_stays, accessor_stays, own_at, maybe_name_moves, class_name_moves, NamePlaces, names_at, names_move, arrow_names_move, member_parameters_move, pairs_at, exported_from_moves, exported_moves, braced_move, import_list_moves}
 use Rattle.js_parser.proofs.MovedTrees.{Same, Like, Moved, Likes, list_at, least_moves, base_moves, callee_moves, target_moves, inner_moves, initialised_kept, defaults_same, elements_move, arguments_move, pieces_move, joined_move, statements_move, cases_move, items_move, braces_move, class_members_move, object_members_move, maybe_moves, block_at, finally_moves, catch_moves, guards_same}

@@ -8,7 +8,7 @@ use Rattle.es_model.specs.Tree.{Tree, Text}
 use Rattle.es_model.specs.Levels.{level, is_nullish, is_bare_new, has_call, is_target, is_declaration, ends_in_short_if, defaults, all_initialised, is_constructor_key, Holder, InObject, InClass}
 use Rattle.es_model.specs.Readings.{Reading, ◌▸◌, given, the}
 use Rattle.es_model.specs.Spelling as s
-use Rattle.es_model.specs.Spelling.{Spells, Spelled, Maybe, LeftOut, There, FunctionUse, AsExpression, AsStatement, AsDefault, AsMember, spells}
+use Rattle.es_model.specs.Spelling.{Spells, FunctionUse, AsExpression, AsStatement, AsDefault, AsMember}
 use Rattle.js_parser.proofs.Moved.{Moves, seq, into, under, impossible, nothing_stays, the_stays, piece_stays}
 use Rattle.js_parser.proofs.MovedWords.{maybe_comma_stays, semicolons_stay, OwnPlace, own_at, catch_name_moves}
 

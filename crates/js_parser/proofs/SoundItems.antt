@@ -9,9 +9,9 @@ use Rattle.es_model.specs.declared.token.TokenKind.TheVariants as k
 use Rattle.es_model.specs.Tree as t
 use Rattle.es_model.specs.Tree.{Text}
 use Rattle.es_model.specs.Readings as reading
-use Rattle.es_model.specs.Readings.{Tokens, Reading, word, the, name, the_name, is_from}
+use Rattle.es_model.specs.Readings.{Tokens, Reading, the, name, the_name, is_from}
 use Rattle.es_model.specs.Spelling as spelling
-use Rattle.es_model.specs.Spelling.{outer_name, imported, exported, exported_from, default_name, default_list, braced}
+use Rattle.es_model.specs.Spelling.{outer_name, imported, exported, exported_from, default_list}
 use Rattle.parser_forms.specs.declared.words.Word.{Word}
 use Rattle.parser_forms.specs.declared.words.Word.TheVariants as w
 use Rattle.parser_forms.specs.declared.frame.Frame.TheVariants as f

@@ -20,7 +20,6 @@ use Rattle.parser_forms.specs.declared.frame.MemberFrame.TheVariants as m
 use Rattle.parser_forms.specs.Kept.{Sorted, none, and_then, followed}
 use Rattle.parser_forms.specs.Parts as p
 use Rattle.parser_forms.specs.Ends as ends
-use Rattle.parser_forms.specs.Ends.{is_derived}
 use Rattle.parser_forms.proofs.Laws.{cut_none, cut_and_then}
 use Rattle.js_parser.specs.Summary.{key_of}
 use Rattle.js_parser.proofs.FormLaws as laws

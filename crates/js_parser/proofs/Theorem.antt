@@ -1,6 +1,6 @@
 -- What the machine answers is what the parser has to answer: it reads each spelled tree, what it has read is
 -- spelled, and the end of a text is the last thing that it takes.
-use Rattle.std.proofs.Common.{◌≡◌, ℕ, zero, suc, ◌+◌, ◌<◌, ◌≤◌, Bool, true, false, [], ◌∷◌, ◌++◌, length, take, drop, map, if◌then◌else◌, Option, Some, None, Ok, Err, Result, refl, ap, sym, ◌∙◌, subst, arith}
+use Rattle.std.proofs.Common.{◌≡◌, ℕ, zero, suc, ◌+◌, ◌<◌, ◌≤◌, Bool, true, false, [], ◌∷◌, ◌++◌, length, take, drop, map, if◌then◌else◌, Option, Some, None, refl, ap, sym, ◌∙◌, subst, arith}
 use Rattle.std.specs.Prelude.{nat_le}
 use Rattle.std.proofs.lemmas.Bool.{leb-true, leb-false}
 use Rattle.es_model.specs.declared.token.Token.{Token}
@@ -16,8 +16,6 @@ use Rattle.parser_forms.specs.Kept.{Sorted}
 use Rattle.parser_forms.specs.Cut.{cut}
 use Rattle.parser_forms.specs.State.{Frames, State, state, fail}
 use Rattle.parser_forms.specs.Machine.{step, run, start, Answer, Parsed, TooDeep, Syntax, answer, answer_from, unless_failed}
-use Rattle.js_parser.specs.declared.fault.ParseFault.{ParseFault}
-use Rattle.js_parser.specs.declared.fault.ParseFault.TheVariants as fault
 use Rattle.js_parser.specs.Parsed.{shape, NoneGoesOn, Answers, EndsLast, result_of}
 use Rattle.js_parser.proofs.Moved.{Alike}
 use Rattle.js_parser.proofs.Over.{IsOver, over}

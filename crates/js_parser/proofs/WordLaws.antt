@@ -8,7 +8,7 @@ use Rattle.es_model.specs.declared.token.Token.{Token}
 use Rattle.es_model.specs.declared.token.TokenKind.{TokenKind}
 use Rattle.es_model.specs.declared.token.TokenKind.TheVariants as k
 use Rattle.es_model.specs.Readings as g
-use Rattle.es_model.specs.Readings.{word, same_kind, any_of, is, is_end}
+use Rattle.es_model.specs.Readings.{word, same_kind, any_of, is}
 use Rattle.es_model.specs.declared.kinds.BinaryOperator.{BinaryOperator}
 use Rattle.es_model.specs.Levels.{operator_sign, assignment_sign, unary_sign}
 use Rattle.parser_forms.specs.declared.words.Word.{Word}

@@ -53,6 +53,15 @@ impl Units {
         self.items.as_slice()
     }
 
+    /// A text of these units. It takes two bytes of memory for each.
+    pub fn from_units(alloc: Global, units: &[u16]) -> Result<Units, AllocError>
+        ensures { IfOk result (λ text. text ≡ units.now) }
+    {
+        let mut items = Vec::new(alloc);
+        items.extend_from_slice(units)?;
+        Ok(Units { items })
+    }
+
     /// Reads UTF-8 (Unicode 15, table 3-7). Each byte that belongs to no well-formed sequence is read as
     /// one U+FFFD (own rule; ECMA-262 reads no bytes).
     pub fn from_utf8(alloc: Global, bytes: &[u8]) -> Result<Units, AllocError>

@@ -6,7 +6,6 @@ use Rattle.es_model.specs.declared.kinds.MemberKind.{MemberKind}
 use Rattle.es_model.specs.declared.kinds.MemberKind.TheVariants as member
 use Rattle.es_model.specs.declared.names.Identifier.{Identifier}
 use Rattle.es_model.specs.Tree as t
-use Rattle.es_model.specs.Tree.{Tree}
 use Rattle.parser_forms.specs.declared.words.Word.{Word}
 use Rattle.parser_forms.specs.declared.words.Word.TheVariants as w
 use Rattle.parser_forms.specs.declared.frame.Frame.TheVariants as f

@@ -9,7 +9,7 @@ use Rattle.es_model.specs.declared.token.TokenKind.{TokenKind}
 use Rattle.es_model.specs.declared.token.TokenKind.TheVariants as k
 use Rattle.es_model.specs.Tokens.{same_text}
 use Rattle.es_model.specs.Tree as t
-use Rattle.es_model.specs.Tree.{Tree, Text}
+use Rattle.es_model.specs.Tree.{Text}
 use Rattle.parser_forms.specs.declared.words.Word.{Word}
 use Rattle.parser_forms.specs.declared.words.Word.TheVariants as w
 use Rattle.parser_forms.specs.declared.frame.Frame.TheVariants as f

@@ -24,11 +24,7 @@ pub fn is_text(units: &[u16], text: &[u8]) -> bool
 pub fn copy_of(alloc: Global, text: &Units) -> Result<Units, AllocError>
     ensures { IfOk result (λ copy. copy ≡ text.now) }
 {
-    let mut copy = Units::new(alloc);
-    for unit in text.as_slice() {
-        copy.push(*unit)?;
-    }
-    Ok(copy)
+    Units::from_units(alloc, text.as_slice())
 }
 
 /// A copy of a name.

@@ -19,6 +19,14 @@ fn a_text_grows(rt: HostRuntime) -> Result<(), Fail> {
     Ok(())
 }
 
+#[test]
+fn a_text_of_units(rt: HostRuntime) -> Result<(), Fail> {
+    let units = [0x61, 0xD800, 0xFFFF];
+    let text = Units::from_units(rt.alloc(), &units)?;
+    assert_eq!(rt; text.as_slice(), units.as_slice());
+    Ok(())
+}
+
 // The Unicode standard, 3.9, has the forms of U+004D, U+0430, U+4E8C and U+10302.
 #[test]
 fn reads_well_formed_text(rt: HostRuntime) -> Result<(), Fail> {

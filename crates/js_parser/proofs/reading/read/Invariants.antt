@@ -1,4 +1,4 @@
-use Rattle.std.proofs.Common.{◌≡◌, ℕ, drop}
+use Rattle.std.proofs.Common.{◌≡◌, drop}
 use Rattle.parser_forms.specs.State.{state}
 use Rattle.parser_forms.specs.Machine.{answer, answer_from}
 use Rattle.js_parser.proofs.reading.read.Given as goal

@@ -1,4 +1,4 @@
-use Rattle.std.proofs.Common.{◌≡◌, ℕ, length}
+use Rattle.std.proofs.Common.{◌≡◌, length}
 use Rattle.parser_forms.specs.Settle.{settle}
 use Rattle.js_parser.proofs.settle.settle.Given as goal
 
