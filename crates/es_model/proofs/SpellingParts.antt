@@ -368,7 +368,7 @@ maybe_reads forms (There reading) takes = loose takes
 
 piece_reads : (text : Text) (first last : Bool) → Takes [] (s.piece text first last)
 unfolding word
-piece_reads text first last = one_reads _ 0 0 (λ token e. kind_weighs 0 0 token.kind (k.Template text first last) (refl, refl) e)
+piece_reads text first last = one_reads _ 0 0 (λ token e. kind_weighs 0 0 token.kind (k.Template first last text) (refl, refl) e)
 
 pub pieces_read : (first : Bool) (texts : List Text) (forms : List FunctionForm) (values : List {1} Reading) → Each Takes forms values → Takes forms (s.pieces first texts values)
 pieces_read first [] forms values each = λ from to h. absurd h

@@ -92,7 +92,7 @@ unfolding Spells word
 objects = (_, refl, (_, (_, (refl, (_, (refl, refl), (_, (_, (refl, refl), (_, refl, (refl, refl))), (refl, refl)))), (refl, refl)), (_, (_, (refl, (_, (refl, refl), (_, (_, (refl, refl), (_, (_, (refl, ((refl, refl), refl)), (_, (refl, refl), (_, (refl, (refl, (_, (refl, refl), (_, (refl, refl), (refl, refl))))), (_, (refl, refl), (_, (refl, (refl, (_, (refl, refl), (_, (refl, refl), (refl, refl))))), (_, (refl, refl), (_, (refl, (refl, (_, (refl, refl), (_, (refl, refl), (refl, refl))))), (_, (refl, refl), (_, (refl, (refl, (_, (_, (refl, refl), (_, ((lit≤ tt), ((refl, refl), refl)), (refl, refl))), (_, (refl, refl), (refl, refl))))), (_, (refl, refl), (_, (refl, (refl, (refl, (_, refl, (_, refl, (_, (refl, refl), ((refl, refl, refl), (_, (refl, refl), (_, refl, (_, (refl, refl), (_, (refl, refl), (_, refl, (refl, refl))))))))))))), (_, (refl, refl), (_, (refl, (refl, (refl, (_, refl, (_, (refl, refl), (_, (refl, refl), ((refl, refl, refl), (_, (refl, refl), (_, refl, (_, (refl, refl), (_, (refl, refl), (_, refl, (refl, refl))))))))))))), (_, (refl, refl), (_, (refl, (refl, (refl, (_, refl, (_, (refl, refl), (_, (refl, refl), ((refl, refl, refl), (_, (refl, refl), (_, ((refl, refl), refl), (_, (refl, refl), (_, (refl, refl), (_, refl, (refl, refl))))))))))))), (inr (refl, refl))))))))))))))))), (refl, refl))), (refl, refl)))), (refl, refl)), refl)))
 
 -- `a`; `a${b}c${d, e}`;
-templates : spells (t.more (t.Plain (t.Value (t.Template ((codes "a") ∷ []) t.none) semi.Written)) (t.more (t.Plain (t.Value (t.Template ((codes "a") ∷ (codes "c") ∷ [] ∷ []) (t.more (t.Name (named_at 9 (codes "b"))) (t.more (t.Comma (t.Name (named_at 14 (codes "d"))) (t.Name (named_at 17 (codes "e")))) t.none))) semi.Written)) t.none)) (token (k.Template (codes "a") true true) 0 ∷ token (k.Sign 6) 3 ∷ token (k.Template (codes "a") true false) 5 ∷ token (k.Name (codes "b")) 9 ∷ token (k.Template (codes "c") false false) 10 ∷ token (k.Name (codes "d")) 14 ∷ token (k.Sign 7) 15 ∷ token (k.Name (codes "e")) 17 ∷ token (k.Template [] false true) 18 ∷ token (k.Sign 6) 20 ∷ token k.End 21 ∷ [])
+templates : spells (t.more (t.Plain (t.Value (t.Template ((codes "a") ∷ []) t.none) semi.Written)) (t.more (t.Plain (t.Value (t.Template ((codes "a") ∷ (codes "c") ∷ [] ∷ []) (t.more (t.Name (named_at 9 (codes "b"))) (t.more (t.Comma (t.Name (named_at 14 (codes "d"))) (t.Name (named_at 17 (codes "e")))) t.none))) semi.Written)) t.none)) (token (k.Template true true (codes "a")) 0 ∷ token (k.Sign 6) 3 ∷ token (k.Template true false (codes "a")) 5 ∷ token (k.Name (codes "b")) 9 ∷ token (k.Template false false (codes "c")) 10 ∷ token (k.Name (codes "d")) 14 ∷ token (k.Sign 7) 15 ∷ token (k.Name (codes "e")) 17 ∷ token (k.Template false true []) 18 ∷ token (k.Sign 6) 20 ∷ token k.End 21 ∷ [])
 unfolding Spells word
 templates = (_, refl, (_, (_, (refl, (refl, refl)), (refl, refl)), (_, (_, (refl, (_, (refl, refl), (_, ((refl, refl), refl), (_, (refl, refl), (_, (_, ((refl, refl), refl), (_, (refl, refl), ((lit≤ tt), ((refl, refl), refl)))), (refl, refl)))))), (refl, refl)), refl)))
 

@@ -167,19 +167,19 @@ escape_too_large : tokens_of (quoted (92 ∷ codes "u{110000}")) ≡ Err (BadEsc
 unfolding tokens_of encoded sequence_length unicode_ident
 escape_too_large = refl
 
-template_plain : tokens_of (template (codes "a" ++ 13 ∷ 10 ∷ codes "b")) ≡ only (k.Template (codes "a" ++ 10 ∷ codes "b") true true) 6
+template_plain : tokens_of (template (codes "a" ++ 13 ∷ 10 ∷ codes "b")) ≡ only (k.Template true true (codes "a" ++ 10 ∷ codes "b")) 6
 unfolding tokens_of encoded sequence_length unicode_ident
 template_plain = refl
 
-template_pieces : tokens_of (template (codes "a${b}c")) ≡ Ok (token (k.Template (codes "a") true false) 0 ∷ token (k.Name (codes "b")) 4 ∷ token (k.Template (codes "c") false true) 5 ∷ token k.End 8 ∷ [])
+template_pieces : tokens_of (template (codes "a${b}c")) ≡ Ok (token (k.Template true false (codes "a")) 0 ∷ token (k.Name (codes "b")) 4 ∷ token (k.Template false true (codes "c")) 5 ∷ token k.End 8 ∷ [])
 unfolding tokens_of encoded sequence_length unicode_ident
 template_pieces = refl
 
-template_braces : tokens_of (template (codes "${{}}")) ≡ Ok (token (k.Template [] true false) 0 ∷ token (k.Sign 0) 3 ∷ token (k.Sign 1) 4 ∷ token (k.Template [] false true) 5 ∷ token k.End 7 ∷ [])
+template_braces : tokens_of (template (codes "${{}}")) ≡ Ok (token (k.Template true false []) 0 ∷ token (k.Sign 0) 3 ∷ token (k.Sign 1) 4 ∷ token (k.Template false true []) 5 ∷ token k.End 7 ∷ [])
 unfolding tokens_of encoded sequence_length unicode_ident
 template_braces = refl
 
-template_in_template : tokens_of (template (codes "${" ++ template (codes "x") ++ codes "}")) ≡ Ok (token (k.Template [] true false) 0 ∷ token (k.Template (codes "x") true true) 3 ∷ token (k.Template [] false true) 6 ∷ token k.End 8 ∷ [])
+template_in_template : tokens_of (template (codes "${" ++ template (codes "x") ++ codes "}")) ≡ Ok (token (k.Template true false []) 0 ∷ token (k.Template true true (codes "x")) 3 ∷ token (k.Template false true []) 6 ∷ token k.End 8 ∷ [])
 unfolding tokens_of encoded sequence_length unicode_ident
 template_in_template = refl
 

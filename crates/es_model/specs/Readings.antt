@@ -123,7 +123,7 @@ semicolon may semi.Missing = λ from to. (from ≡ to) × First (λ token. may t
 
 -- what goes on with a statement after a line break
 abbrev pub is_template : TokenKind → Bool
-is_template (k.Template text first last) = true
+is_template (k.Template first last text) = true
 is_template _ = false
 
 abbrev pub goes_on : Token → Bool

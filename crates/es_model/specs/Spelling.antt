@@ -142,7 +142,7 @@ maybe (There reading) = reading
 
 -- a template: a piece of text, and for each value the value and a piece
 abbrev pub piece : Text → Bool → Bool → Reading
-piece text first last = One (λ token. token.kind ≡ k.Template text first last)
+piece text first last = One (λ token. token.kind ≡ k.Template first last text)
 
 abbrev pub pieces : Bool → List Text → List {1} Reading → Reading
 pieces first [] values = never

@@ -286,7 +286,7 @@ read_string at (Ok (units, last, count)) = Word (k.String units) count
 read_string at (Err fault) = Wrong fault
 
 abbrev pub read_template : Bool → Result (List ℕ × Bool × ℕ) LexFault → Element
-read_template first (Ok (units, last, count)) = Word (k.Template units first last) count
+read_template first (Ok (units, last, count)) = Word (k.Template first last units) count
 read_template first (Err fault) = Wrong fault
 
 -- the name or the keyword that begins with a character
@@ -433,7 +433,7 @@ after_template at _ _ braces = braces
 abbrev pub braces_after : ℕ → TokenKind → List Brace → List Brace
 braces_after at (k.Sign zero) braces = Curly ∷ braces
 braces_after at (k.Sign (suc zero)) braces = drop 1 braces
-braces_after at (k.Template units first last) braces = after_template at first last braces
+braces_after at (k.Template first last units) braces = after_template at first last braces
 braces_after at _ braces = braces
 
 -- The text, cut: each part with its place and its spelling. The last is the end, or a fault with

@@ -16,11 +16,12 @@ pub enum TokenKind {
     /// The units that a string literal stands for.
     String(Units),
     /// The units of a template between its backquotes and substitutions. The first piece begins
-    /// at the opening backquote, and the last ends with the closing one.
+    /// at the opening backquote, and the last ends with the closing one. The marks stand before
+    /// the text, where they take no room of their own.
     Template {
-        text: Units,
         first: bool,
         last: bool,
+        text: Units,
     },
     Sign(u8),
     /// The end of the text. It is the last token.
@@ -28,13 +29,15 @@ pub enum TokenKind {
 }
 
 /// A token. `at` is the place of its first byte in the text, from 0, and `line_before` says that
-/// a line break stands before it, after the token before.
+/// a line break stands before it, after the token before. It takes 40 bytes beside its units.
 #[derive(Drop)]
 pub struct Token {
     pub kind: TokenKind,
     pub at: u32,
     pub line_before: bool,
 }
+
+const _: () = prove!(size_of::<Token>() == 40);
 
 /// A list of tokens.
 #[derive(Drop)]

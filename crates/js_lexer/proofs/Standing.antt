@@ -220,8 +220,8 @@ is_continued braces at begun left h place =
 pub is_brace : (braces : List Brace) (at : ℕ) (cs : List ℕ) → None ≡ s.continued braces → closing_element braces at cs ≡ s.sign_element at (125 ∷ cs)
 is_brace braces at cs h = ap (closing_by at cs) (sym h)
 
-pub template_found : (first : Bool) (left new : Left) (r : Result (List ℕ × Bool × ℕ) LexFault) (units : List ℕ) (last : Bool) → piece_left left r ≡ Ok ((units, last), new) → found (s.read_template first r) left ≡ Ok (Token (k.Template units first last), new)
-template_found first left new (Ok (u, end, count)) units last e = let pair : ((u, end), skip count left) ≡ ((units, last), new) = pair_of ((u, end), skip count left) ((units, last), new) e in ap (λ p. Ok (Token (k.Template p.0.0 first p.0.1), p.1)) pair
+pub template_found : (first : Bool) (left new : Left) (r : Result (List ℕ × Bool × ℕ) LexFault) (units : List ℕ) (last : Bool) → piece_left left r ≡ Ok ((units, last), new) → found (s.read_template first r) left ≡ Ok (Token (k.Template first last units), new)
+template_found first left new (Ok (u, end, count)) units last e = let pair : ((u, end), skip count left) ≡ ((units, last), new) = pair_of ((u, end), skip count left) ((units, last), new) e in ap (λ p. Ok (Token (k.Template first p.0.1 p.0.0), p.1)) pair
   where
     pair_of : (a b : (List ℕ × Bool) × Left) → ◌≡◌ {A = Result ((List ℕ × Bool) × Left) LexFault} (Ok a) (Ok b) → a ≡ b
     pair_of a b e = cc e

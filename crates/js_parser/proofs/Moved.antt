@@ -82,7 +82,7 @@ pub string_stays : (text : Text) → Stays (One (λ token. token.kind ≡ k.Stri
 string_stays text = kind_stays (k.String text)
 
 pub piece_stays : (text : Text) (first last : Bool) → Stays (s.piece text first last)
-piece_stays text first last = kind_stays (k.Template text first last)
+piece_stays text first last = kind_stays (k.Template first last text)
 
 pub property_stays : (text : Text) → Stays (property text)
 property_stays text = one_moves (λ _ token. plain_name token.kind ≡ Some text) (λ token other e h. (tt, ap plain_name (sym e) ∙ h))

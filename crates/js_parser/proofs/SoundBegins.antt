@@ -137,9 +137,9 @@ module _ (whole : Tokens) where
   operand_kind_holds frames token now (k.Name text) low h e = (token ∷ now, h, low, omega (arith, low), read_name token text now e)
   operand_kind_holds frames token now (k.Number number) low h e = (token ∷ now, h, low, omega (arith, low), read_number token number now e)
   operand_kind_holds frames token now (k.String text) low h e = (token ∷ now, h, low, omega (arith, low), read_string token text now e)
-  operand_kind_holds frames token now (k.Template text true true) low h e = (token ∷ now, h, low, omega (arith, low), read_plain_template token text now e)
-  operand_kind_holds frames token now (k.Template text true false) low h e = ((token ∷ now, h, low, (refl, read_pieces token text now e)), omega arith)
-  operand_kind_holds frames token now (k.Template text false last) low h e = tt
+  operand_kind_holds frames token now (k.Template true true text) low h e = (token ∷ now, h, low, omega (arith, low), read_plain_template token text now e)
+  operand_kind_holds frames token now (k.Template true false text) low h e = ((token ∷ now, h, low, (refl, read_pieces token text now e)), omega arith)
+  operand_kind_holds frames token now (k.Template false last text) low h e = tt
   operand_kind_holds frames token now (k.Keyword place) low h e =
       operand_word_holds frames token now (keyword_word place) low h (subst (λ u. Is (keyword_word place) u) (sym e) (kind_is (k.Keyword place)))
   operand_kind_holds frames token now (k.Sign place) low h e =

@@ -92,12 +92,12 @@ read_string token text now e = (t.String text, sym (laws.string_is token.at text
 
 -- Templates.
 
-pub read_plain_template : (token : Token) (text : Text) (now : Tokens) → token.kind ≡ k.Template text true true → Read (p.template token.at (text ∷ []) none) (token ∷ now) now
+pub read_plain_template : (token : Token) (text : Text) (now : Tokens) → token.kind ≡ k.Template true true text → Read (p.template token.at (text ∷ []) none) (token ∷ now) now
 unfolding Spells
 read_plain_template token text now e =
     (t.Template (text ∷ []) t.none, sym (laws.template_is token.at (text ∷ []) t.none) ∙ ap (p.template token.at (text ∷ [])) (sym cut_none), refl, (e, refl))
 
-pub read_pieces : (token : Token) (text : Text) (now : Tokens) → token.kind ≡ k.Template text true false → ReadPieces (text ∷ []) none (token ∷ now) now
+pub read_pieces : (token : Token) (text : Text) (now : Tokens) → token.kind ≡ k.Template true false text → ReadPieces (text ∷ []) none (token ∷ now) now
 unfolding Spells
 read_pieces token text now e = (t.none, sym cut_none, (e, refl))
 

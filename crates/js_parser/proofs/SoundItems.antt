@@ -40,7 +40,7 @@ named_is text (k.Name other) e = ap k.Name (same_text_is other text e)
 named_is text (k.Keyword number) e = absurd (true≢false (sym e))
 named_is text (k.Number value) e = absurd (true≢false (sym e))
 named_is text (k.String other) e = absurd (true≢false (sym e))
-named_is text (k.Template other first last) e = absurd (true≢false (sym e))
+named_is text (k.Template first last other) e = absurd (true≢false (sym e))
 named_is text (k.Sign number) e = absurd (true≢false (sym e))
 named_is text k.End e = absurd (true≢false (sym e))
 
@@ -49,7 +49,7 @@ from_is (k.Name other) = refl
 from_is (k.Keyword number) = refl
 from_is (k.Number value) = refl
 from_is (k.String other) = refl
-from_is (k.Template other first last) = refl
+from_is (k.Template first last other) = refl
 from_is (k.Sign number) = refl
 from_is k.End = refl
 

@@ -191,9 +191,9 @@ module _ (whole : Tokens) where
 
   template_end_holds : (frames : Frames) (at : ℕ) (texts : List Text) (values : Sorted (t.list t.expression)) (part : Part) (token : Token) (start from now : Tokens) (kind : TokenKind) → Opened whole frames start → lowest frames ≤ 17 →
       Taken (f.Expression (x.Template at texts values)) start from → Read part from (token ∷ now) → token.kind ≡ kind → Holds whole (template_end frames at texts (and_then values part.of) kind) now
-  template_end_holds frames at texts values part token start from now (k.Template text false true) h low taken r e =
+  template_end_holds frames at texts values part token start from now (k.Template false true text) h low taken r e =
       (start, h, low, omega (arith, low), read_template at texts values part text start from (token ∷ now) now taken r (e, refl))
-  template_end_holds frames at texts values part token start from now (k.Template text false false) h low (place, taken) r e =
+  template_end_holds frames at texts values part token start from now (k.Template false false text) h low (place, taken) r e =
       ((start, h, low, (place, read_pieces_more texts values part text start from (token ∷ now) now taken r (e, refl))), omega arith)
   template_end_holds frames at texts values part token start from now _ h low taken r e = tt
 

@@ -28,7 +28,7 @@ abbrev pub Is : Word → TokenKind → Type 0
 Is w.Name kind = (text : List ℕ) × (kind ≡ k.Name text)
 Is w.Number kind = (value : ℤ) × (kind ≡ k.Number value)
 Is w.String kind = (text : List ℕ) × (kind ≡ k.String text)
-Is w.Template kind = (text : List ℕ) × (first : Bool) × (last : Bool) × (kind ≡ k.Template text first last)
+Is w.Template kind = (text : List ℕ) × (first : Bool) × (last : Bool) × (kind ≡ k.Template first last text)
 Is w.End kind = kind ≡ k.End
 Is w.Reserved kind = Unit {0}
 Is w.Unknown kind = Unit {0}
@@ -144,7 +144,7 @@ kind_is (k.Name text) = (text, refl)
 kind_is (k.Keyword n) = keyword_is n
 kind_is (k.Number value) = (value, refl)
 kind_is (k.String text) = (text, refl)
-kind_is (k.Template text first last) = (text, first, last, refl)
+kind_is (k.Template first last text) = (text, first, last, refl)
 kind_is (k.Sign n) = sign_is n
 kind_is k.End = refl
 
@@ -155,13 +155,13 @@ word_is token word e = subst (λ u. Is u token.kind) e (kind_is token.kind)
 
 -- a claim of each kind of token, by what it says of keywords and signs
 by_kind : (claim : Word → TokenKind → Type 0) → ((text : List ℕ) → claim w.Name (k.Name text)) → ((value : ℤ) → claim w.Number (k.Number value)) →
-    ((text : List ℕ) → claim w.String (k.String text)) → ((text : List ℕ) (first last : Bool) → claim w.Template (k.Template text first last)) → claim w.End k.End →
+    ((text : List ℕ) → claim w.String (k.String text)) → ((text : List ℕ) (first last : Bool) → claim w.Template (k.Template first last text)) → claim w.End k.End →
     Each keyword_words (λ word n. claim word (k.Keyword n)) → Each sign_words (λ word n. claim word (k.Sign n)) → (kind : TokenKind) → claim (word_of kind) kind
 by_kind claim name number string template end keywords signs (k.Name text) = name text
 by_kind claim name number string template end keywords signs (k.Keyword n) = at_each keyword_words (λ word n. claim word (k.Keyword n)) keywords n
 by_kind claim name number string template end keywords signs (k.Number value) = number value
 by_kind claim name number string template end keywords signs (k.String text) = string text
-by_kind claim name number string template end keywords signs (k.Template text first last) = template text first last
+by_kind claim name number string template end keywords signs (k.Template first last text) = template text first last
 by_kind claim name number string template end keywords signs (k.Sign n) = at_each sign_words (λ word n. claim word (k.Sign n)) signs n
 by_kind claim name number string template end keywords signs k.End = end
 
@@ -191,20 +191,20 @@ far_same (k.Keyword m) (k.Keyword n) h e = apart m n 46 h e
 far_same (k.Keyword m) (k.Name text) h e = refl
 far_same (k.Keyword m) (k.Number value) h e = refl
 far_same (k.Keyword m) (k.String text) h e = refl
-far_same (k.Keyword m) (k.Template text first last) h e = refl
+far_same (k.Keyword m) (k.Template first last text) h e = refl
 far_same (k.Keyword m) (k.Sign n) h e = refl
 far_same (k.Keyword m) k.End h e = refl
 far_same (k.Sign m) (k.Sign n) h e = apart m n 52 h e
 far_same (k.Sign m) (k.Name text) h e = refl
 far_same (k.Sign m) (k.Number value) h e = refl
 far_same (k.Sign m) (k.String text) h e = refl
-far_same (k.Sign m) (k.Template text first last) h e = refl
+far_same (k.Sign m) (k.Template first last text) h e = refl
 far_same (k.Sign m) (k.Keyword n) h e = refl
 far_same (k.Sign m) k.End h e = refl
 far_same (k.Name text) other h e = absurd h
 far_same (k.Number value) other h e = absurd h
 far_same (k.String text) other h e = absurd h
-far_same (k.Template text first last) other h e = absurd h
+far_same (k.Template first last text) other h e = absurd h
 far_same k.End other h e = absurd h
 
 and_true : (a b : Bool) → (a && b) ≡ true → (a ≡ true) × (b ≡ true)

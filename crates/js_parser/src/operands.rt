@@ -254,7 +254,7 @@ fn template_word(
     text: &Units,
     last: bool,
 ) -> Result<Control, AllocError>
-    ensures { IfOk result (λ c. Shows (b.operand_kind stack.old (k.Template text.now true last) at) c stack.new) }
+    ensures { IfOk result (λ c. Shows (b.operand_kind stack.old (k.Template true last text.now) at) c stack.new) }
 {
     let texts = one_text(alloc, text)?;
     let values = no_expressions(alloc);

@@ -1,9 +1,8 @@
 //! What a token makes of an expression that was read: it goes on with it, or ends the forms that wait
 //! for it.
 
-ghost use Rattle.std.specs.Prelude.{◌≡◌, ◌∷◌, IfOk};
+ghost use Rattle.std.specs.Prelude.{IfOk};
 ghost use Rattle.parser_forms.specs.Settle as s;
-ghost use Rattle.parser_forms.specs.Tables as t;
 ghost use Rattle.js_parser.specs.Closes.{Closes};
 ghost use Rattle.js_parser.specs.Shows.{Shows};
 
@@ -12,7 +11,7 @@ use crate::goings::taken;
 use crate::member_ends::{end_in_item, end_in_member};
 use crate::statement_ends::end_in_statement;
 use es_model::Token;
-use parser_forms::{Control, Frame, Lose, Part, Stack, Word, goes_on_in, word_of_kind};
+use parser_forms::{Control, Frame, Lose, Part, Stack, goes_on_inside, word_of_kind};
 use std::alloc::{AllocError, Global};
 
 fn close_form(
@@ -36,25 +35,6 @@ fn close_form(
     }
 }
 
-// The expression goes on in the form that was innermost.
-fn go_on(
-    alloc: Global,
-    stack: &mut Stack<Frame>,
-    frame: Frame,
-    part: Part,
-    word: Word,
-) -> Result<Control, AllocError>
-    ensures { IfOk result (λ c. Shows (s.taken_by part (frame ∷ stack.old) (t.infix_of word) (t.assignment_of word) word) c stack.new) }
-{
-    match stack.open(frame) {
-        Ok(()) => taken(alloc, stack, part, word),
-        Err(error) => {
-            part.lose();
-            Err(error)
-        }
-    }
-}
-
 /// A token behind an expression that was read. The one error is want of memory.
 pub fn settle(
     alloc: Global,
@@ -66,15 +46,15 @@ pub fn settle(
 {
     let word = word_of_kind(&token.kind);
     let mut part = part;
-    while let Some(frame) = stack.pop() {
-        if goes_on_in(&frame, word, token.line_before) {
-            return go_on(alloc, stack, frame, part, word);
-        }
+    while !goes_on_inside(stack, word, token.line_before) {
+        let Some(frame) = stack.pop() else {
+            part.lose();
+            return Ok(Control::Fail);
+        };
         match close_form(alloc, stack, frame, part, token)? {
             Closed::Read(next) => part = next,
             Closed::Done(control) => return Ok(control),
         }
     }
-    part.lose();
-    Ok(Control::Fail)
+    taken(alloc, stack, part, word)
 }

@@ -265,19 +265,19 @@ nullish_assignment : answer (token (k.Name (codes "a")) 0 ∷ token (k.Sign 35) 
 nullish_assignment = refl
 
 -- a ‸`b`;
-tagged_template : answer (token (k.Name (codes "a")) 0 ∷ token (k.Template (codes "b") true true) 2 ∷ token (k.Sign 6) 5 ∷ token k.End 6 ∷ []) ≡ Syntax 1
+tagged_template : answer (token (k.Name (codes "a")) 0 ∷ token (k.Template true true (codes "b")) 2 ∷ token (k.Sign 6) 5 ∷ token k.End 6 ∷ []) ≡ Syntax 1
 tagged_template = refl
 
 -- a.b ‸`c`;
-tagged_member : answer (token (k.Name (codes "a")) 0 ∷ token (k.Sign 8) 1 ∷ token (k.Name (codes "b")) 2 ∷ token (k.Template (codes "c") true true) 4 ∷ token (k.Sign 6) 7 ∷ token k.End 8 ∷ []) ≡ Syntax 3
+tagged_member : answer (token (k.Name (codes "a")) 0 ∷ token (k.Sign 8) 1 ∷ token (k.Name (codes "b")) 2 ∷ token (k.Template true true (codes "c")) 4 ∷ token (k.Sign 6) 7 ∷ token k.End 8 ∷ []) ≡ Syntax 3
 tagged_member = refl
 
 -- `a${b‸;
-template_cut_off : answer (token (k.Template (codes "a") true false) 0 ∷ token (k.Name (codes "b")) 4 ∷ token (k.Sign 6) 5 ∷ token k.End 6 ∷ []) ≡ Syntax 2
+template_cut_off : answer (token (k.Template true false (codes "a")) 0 ∷ token (k.Name (codes "b")) 4 ∷ token (k.Sign 6) 5 ∷ token k.End 6 ∷ []) ≡ Syntax 2
 template_cut_off = refl
 
 -- `a${‸}b`;
-template_without_a_value : answer (token (k.Template (codes "a") true false) 0 ∷ token (k.Template (codes "b") false true) 4 ∷ token (k.Sign 6) 7 ∷ token k.End 8 ∷ []) ≡ Syntax 1
+template_without_a_value : answer (token (k.Template true false (codes "a")) 0 ∷ token (k.Template false true (codes "b")) 4 ∷ token (k.Sign 6) 7 ∷ token k.End 8 ∷ []) ≡ Syntax 1
 template_without_a_value = refl
 
 -- a = ‸/b/;
@@ -385,7 +385,7 @@ sum_in_parentheses_updated : answer (token (k.Sign 2) 0 ∷ token (k.Name (codes
 sum_in_parentheses_updated = refl
 
 -- `a` ‸= 1;
-template_assigned : answer (token (k.Template (codes "a") true true) 0 ∷ token (k.Sign 38) 4 ∷ token (k.Number (pos 1)) 6 ∷ token (k.Sign 6) 7 ∷ token k.End 8 ∷ []) ≡ Syntax 1
+template_assigned : answer (token (k.Template true true (codes "a")) 0 ∷ token (k.Sign 38) 4 ∷ token (k.Number (pos 1)) 6 ∷ token (k.Sign 6) 7 ∷ token k.End 8 ∷ []) ≡ Syntax 1
 template_assigned = refl
 
 -- new a ‸= 1;

@@ -75,7 +75,7 @@ objects : answer (token (k.Sign 2) 0 ∷ token (k.Sign 0) 1 ∷ token (k.Sign 1)
 objects = refl
 
 -- `a`; `a${b}c${d, e}`;
-templates : answer (token (k.Template (codes "a") true true) 0 ∷ token (k.Sign 6) 3 ∷ token (k.Template (codes "a") true false) 5 ∷ token (k.Name (codes "b")) 9 ∷ token (k.Template (codes "c") false false) 10 ∷ token (k.Name (codes "d")) 14 ∷ token (k.Sign 7) 15 ∷ token (k.Name (codes "e")) 17 ∷ token (k.Template [] false true) 18 ∷ token (k.Sign 6) 20 ∷ token k.End 21 ∷ []) ≡ Parsed (t.more (t.Plain (t.Value (t.Template ((codes "a") ∷ []) t.none) semi.Written)) (t.more (t.Plain (t.Value (t.Template ((codes "a") ∷ (codes "c") ∷ [] ∷ []) (t.more (t.Name (named_at 9 (codes "b"))) (t.more (t.Comma (t.Name (named_at 14 (codes "d"))) (t.Name (named_at 17 (codes "e")))) t.none))) semi.Written)) t.none))
+templates : answer (token (k.Template true true (codes "a")) 0 ∷ token (k.Sign 6) 3 ∷ token (k.Template true false (codes "a")) 5 ∷ token (k.Name (codes "b")) 9 ∷ token (k.Template false false (codes "c")) 10 ∷ token (k.Name (codes "d")) 14 ∷ token (k.Sign 7) 15 ∷ token (k.Name (codes "e")) 17 ∷ token (k.Template false true []) 18 ∷ token (k.Sign 6) 20 ∷ token k.End 21 ∷ []) ≡ Parsed (t.more (t.Plain (t.Value (t.Template ((codes "a") ∷ []) t.none) semi.Written)) (t.more (t.Plain (t.Value (t.Template ((codes "a") ∷ (codes "c") ∷ [] ∷ []) (t.more (t.Name (named_at 9 (codes "b"))) (t.more (t.Comma (t.Name (named_at 14 (codes "d"))) (t.Name (named_at 17 (codes "e")))) t.none))) semi.Written)) t.none))
 templates = refl
 
 -- (function () {}); (function f(a, b,) { return; });

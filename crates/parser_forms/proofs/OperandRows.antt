@@ -206,15 +206,15 @@ arguments_are_elements : answer (token (k.Name (codes "f")) 0 ∷ token (k.Sign 
 arguments_are_elements = refl
 
 -- `a${`b${c}`}d`;
-template_of_templates : answer (token (k.Template (codes "a") true false) 0 ∷ token (k.Template (codes "b") true false) 4 ∷ token (k.Name (codes "c")) 8 ∷ token (k.Template (codes "") false true) 9 ∷ token (k.Template (codes "d") false true) 11 ∷ token (k.Sign 6) 14 ∷ token k.End 15 ∷ []) ≡ Parsed (t.more (t.Plain (t.Value (t.Template (codes "a" ∷ codes "d" ∷ []) (t.more (t.Template (codes "b" ∷ codes "" ∷ []) (t.more (t.Name (named_at 8 (codes "c"))) t.none)) t.none)) semi.Written)) t.none)
+template_of_templates : answer (token (k.Template true false (codes "a")) 0 ∷ token (k.Template true false (codes "b")) 4 ∷ token (k.Name (codes "c")) 8 ∷ token (k.Template false true (codes "")) 9 ∷ token (k.Template false true (codes "d")) 11 ∷ token (k.Sign 6) 14 ∷ token k.End 15 ∷ []) ≡ Parsed (t.more (t.Plain (t.Value (t.Template (codes "a" ∷ codes "d" ∷ []) (t.more (t.Template (codes "b" ∷ codes "" ∷ []) (t.more (t.Name (named_at 8 (codes "c"))) t.none)) t.none)) semi.Written)) t.none)
 template_of_templates = refl
 
 -- `${a, b}`.c;
-template_with_a_comma_form : answer (token (k.Template (codes "") true false) 0 ∷ token (k.Name (codes "a")) 3 ∷ token (k.Sign 7) 4 ∷ token (k.Name (codes "b")) 6 ∷ token (k.Template (codes "") false true) 7 ∷ token (k.Sign 8) 9 ∷ token (k.Name (codes "c")) 10 ∷ token (k.Sign 6) 11 ∷ token k.End 12 ∷ []) ≡ Parsed (t.more (t.Plain (t.Value (t.Dot (t.Template (codes "" ∷ codes "" ∷ []) (t.more (t.Comma (t.Name (named_at 3 (codes "a"))) (t.Name (named_at 6 (codes "b")))) t.none)) (codes "c")) semi.Written)) t.none)
+template_with_a_comma_form : answer (token (k.Template true false (codes "")) 0 ∷ token (k.Name (codes "a")) 3 ∷ token (k.Sign 7) 4 ∷ token (k.Name (codes "b")) 6 ∷ token (k.Template false true (codes "")) 7 ∷ token (k.Sign 8) 9 ∷ token (k.Name (codes "c")) 10 ∷ token (k.Sign 6) 11 ∷ token k.End 12 ∷ []) ≡ Parsed (t.more (t.Plain (t.Value (t.Dot (t.Template (codes "" ∷ codes "" ∷ []) (t.more (t.Comma (t.Name (named_at 3 (codes "a"))) (t.Name (named_at 6 (codes "b")))) t.none)) (codes "c")) semi.Written)) t.none)
 template_with_a_comma_form = refl
 
 -- `${{}}`;
-template_with_an_object : answer (token (k.Template (codes "") true false) 0 ∷ token (k.Sign 0) 3 ∷ token (k.Sign 1) 4 ∷ token (k.Template (codes "") false true) 5 ∷ token (k.Sign 6) 7 ∷ token k.End 8 ∷ []) ≡ Parsed (t.more (t.Plain (t.Value (t.Template (codes "" ∷ codes "" ∷ []) (t.more (t.Object t.none) t.none)) semi.Written)) t.none)
+template_with_an_object : answer (token (k.Template true false (codes "")) 0 ∷ token (k.Sign 0) 3 ∷ token (k.Sign 1) 4 ∷ token (k.Template false true (codes "")) 5 ∷ token (k.Sign 6) 7 ∷ token k.End 8 ∷ []) ≡ Parsed (t.more (t.Plain (t.Value (t.Template (codes "" ∷ codes "" ∷ []) (t.more (t.Object t.none) t.none)) semi.Written)) t.none)
 template_with_an_object = refl
 
 -- (function () {})(); (function f() {}());

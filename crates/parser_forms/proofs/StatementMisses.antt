@@ -73,7 +73,7 @@ declared_name_and_a_sign : answer (token (k.Keyword 25) 0 ∷ token (k.Name (cod
 declared_name_and_a_sign = refl
 
 -- let a⏎‸`b`;
-declared_name_and_a_template : answer (token (k.Keyword 25) 0 ∷ token (k.Name (codes "a")) 4 ∷ lined (k.Template (codes "b") true true) 6 ∷ token (k.Sign 6) 9 ∷ token k.End 10 ∷ []) ≡ Syntax 2
+declared_name_and_a_template : answer (token (k.Keyword 25) 0 ∷ token (k.Name (codes "a")) 4 ∷ lined (k.Template true true (codes "b")) 6 ∷ token (k.Sign 6) 9 ∷ token k.End 10 ∷ []) ≡ Syntax 2
 declared_name_and_a_template = refl
 
 -- let a⏎‸: b;

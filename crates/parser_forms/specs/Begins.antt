@@ -79,9 +79,9 @@ abbrev pub operand_kind : Frames → TokenKind → ℕ → State
 operand_kind frames (k.Name text) at = read (p.name (record { at = at; name = text })) frames
 operand_kind frames (k.Number number) at = read (p.leaf (t.Number number) at) frames
 operand_kind frames (k.String text) at = read (p.leaf (t.String text) at) frames
-operand_kind frames (k.Template text true true) at = read (p.template at (text ∷ []) none) frames
-operand_kind frames (k.Template text true false) at = operand_due (f.Expression (x.Template at (text ∷ []) none) ∷ frames)
-operand_kind frames (k.Template text false last) at = fail
+operand_kind frames (k.Template true true text) at = read (p.template at (text ∷ []) none) frames
+operand_kind frames (k.Template true false text) at = operand_due (f.Expression (x.Template at (text ∷ []) none) ∷ frames)
+operand_kind frames (k.Template false last text) at = fail
 operand_kind frames (k.Keyword place) at = operand_word frames (keyword_word place) at
 operand_kind frames (k.Sign place) at = operand_word frames (sign_word place) at
 operand_kind frames k.End at = fail

@@ -96,8 +96,8 @@ items_end frames at items w.Comma = operand_due (f.Expression (x.Array at items)
 items_end frames at items _ = fail
 
 abbrev pub template_end : Frames → ℕ → List Text → Sorted (t.list t.expression) → TokenKind → State
-template_end frames at texts values (k.Template text false true) = read (p.template at (texts ++ text ∷ []) values) frames
-template_end frames at texts values (k.Template text false false) = operand_due (f.Expression (x.Template at (texts ++ text ∷ []) values) ∷ frames)
+template_end frames at texts values (k.Template false true text) = read (p.template at (texts ++ text ∷ []) values) frames
+template_end frames at texts values (k.Template false false text) = operand_due (f.Expression (x.Template at (texts ++ text ∷ []) values) ∷ frames)
 template_end frames at texts values _ = fail
 
 -- a state, where the word is the one that is due

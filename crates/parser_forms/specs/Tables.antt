@@ -177,6 +177,11 @@ slot (frame ∷ frames) = slot_of frame
 abbrev pub goes_on_in : Frame → Word → Bool → Bool
 goes_on_in frame word line = nat_le (slot_of frame) (gives word line)
 
+-- the same of the innermost of the open forms
+abbrev pub goes_on_inside : List Frame → Word → Bool → Bool
+goes_on_inside [] word line = false
+goes_on_inside (frame ∷ frames) word line = goes_on_in frame word line
+
 -- Missing semicolons (own rule), by the next word and the line break before it.
 
 abbrev pub is_semicolon : Word → Bool

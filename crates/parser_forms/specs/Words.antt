@@ -33,6 +33,6 @@ word_of (k.Name text) = w.Name
 word_of (k.Keyword place) = keyword_word place
 word_of (k.Number value) = w.Number
 word_of (k.String text) = w.String
-word_of (k.Template text first last) = w.Template
+word_of (k.Template first last text) = w.Template
 word_of (k.Sign place) = sign_word place
 word_of k.End = w.End

@@ -123,7 +123,7 @@ pub use statements::value;
 pub use statements::while_loop;
 pub use tables::assignment_of;
 pub use tables::gives;
-pub use tables::goes_on_in;
+pub use tables::goes_on_inside;
 pub use tables::infix_level;
 pub use tables::infix_of;
 pub use tables::is_base;

@@ -291,11 +291,21 @@ pub fn slot(stack: &Stack<Frame>) -> u8
     }
 }
 
-/// Whether an expression goes on with a word in an open form.
-pub fn goes_on_in(frame: &Frame, word: Word, line: bool) -> bool
+// Whether an expression goes on with a word in an open form.
+fn goes_on_in(frame: &Frame, word: Word, line: bool) -> bool
     ensures { result ≡ t.goes_on_in frame.now word line }
 {
     slot_of(frame) <= gives(word, line)
+}
+
+/// Whether an expression goes on with a word in the innermost form.
+pub fn goes_on_inside(stack: &Stack<Frame>, word: Word, line: bool) -> bool
+    ensures { result ≡ t.goes_on_inside stack.now word line }
+{
+    match stack.top() {
+        Some(frame) => goes_on_in(frame, word, line),
+        None => false,
+    }
 }
 
 /// Whether a word is a semicolon.
