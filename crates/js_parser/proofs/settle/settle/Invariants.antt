@@ -3,8 +3,8 @@ use Rattle.parser_forms.specs.Settle.{settle}
 use Rattle.js_parser.proofs.settle.settle.Given as goal
 
 -- what is left to settle makes the same
-abbrev pub invariant-loop : goal.invariant-loop
-invariant-loop l = settle l.fn.stack l.fn.part l.token ≡ settle l.stack l.part l.token
+abbrev pub invariant-loop-stack : goal.invariant-loop-stack
+invariant-loop-stack l = settle l.fn.stack l.fn.part l.token ≡ settle l.stack l.part l.token
 
-abbrev pub decreases-loop : goal.decreases-loop
-decreases-loop l = length l.stack
+abbrev pub decreases-loop-stack : goal.decreases-loop-stack
+decreases-loop-stack l = length l.stack
