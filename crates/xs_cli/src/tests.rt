@@ -253,6 +253,8 @@ fn is_usage(rt: &HostRuntime, words: &[&str]) -> Result<bool, AllocError> {
 #[test]
 fn words_of_no_command(rt: HostRuntime) -> Result<(), Fail> {
     assert!(rt; is_usage(&rt, &[])?);
+    assert!(rt; is_usage(&rt, &["eval"])?);
+    assert!(rt; is_usage(&rt, &["eval", ""])?);
     assert!(rt; is_usage(&rt, &["eval", "-x"])?);
     assert!(rt; is_usage(&rt, &["run", "main.js"])?);
     assert!(rt; is_usage(&rt, &["eval", "main.js", "main.js"])?);
