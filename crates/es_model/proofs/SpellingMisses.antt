@@ -1,5 +1,5 @@
 -- Trees, and tokens, that the grammar refuses.
-use Rattle.std.proofs.Common.{◌≡◌, ℕ, Bool, true, false, List, [], ◌∷◌, codes, pos, None, sym, subst, arith}
+use Rattle.std.proofs.Common.{◌≡◌, ℕ, Bool, true, false, List, [], ◌∷◌, codes, pos, Some, None, inl, inr, sym, subst, arith}
 use Rattle.es_model.specs.declared.kinds.Semi.{Semi}
 use Rattle.es_model.specs.declared.kinds.Semi.TheVariants as semi
 use Rattle.es_model.specs.declared.kinds.FunctionKind.TheVariants as f
@@ -7,13 +7,14 @@ use Rattle.es_model.specs.declared.kinds.MemberKind.TheVariants as m
 use Rattle.es_model.specs.declared.kinds.BinaryOperator.TheVariants as b
 use Rattle.es_model.specs.declared.kinds.UnaryOperator.TheVariants as u
 use Rattle.es_model.specs.declared.names.Identifier.{Identifier}
+use Rattle.es_model.specs.declared.names.Pair.{Pair}
 use Rattle.es_model.specs.declared.token.TokenKind.{TokenKind}
 use Rattle.es_model.specs.declared.token.TokenKind.TheVariants as k
 use Rattle.es_model.specs.Tree as t
 use Rattle.es_model.specs.Tree.{Tree}
 use Rattle.es_model.specs.Levels.{InObject, InClass}
 use Rattle.es_model.specs.Readings.{Tokens, First, word, the, same_line, semicolon, may_miss, may_miss_bare}
-use Rattle.es_model.specs.Spelling.{Spells, spells}
+use Rattle.es_model.specs.Spelling.{Spells, spells, import_list, module_name}
 use Rattle.es_model.proofs.ModuleLaws.{signs_pair_off}
 use Rattle.es_model.proofs.Rows.{token, lined}
 
@@ -147,6 +148,11 @@ call_updated : (at : ℕ) (a : Tree t.expression) (list : Tree (t.list t.express
 unfolding Spells
 call_updated at a list from to h = cc (h.1.2.0)
 
+-- an assignment with the operator `<`
+comparison_assigned : (at : ℕ) (target value : Tree t.expression) (from to : Tokens) → Spells (t.Assign at target (Some b.Less) value) from to → ⊥
+unfolding Spells
+comparison_assigned at target value from to h = h.1.2.1
+
 -- `for (const a;;) ;`
 const_in_head : (a : Identifier) (from to : Tokens) → Spells (t.For (t.HeadDeclare true (t.more (t.DeclaratorOf a t.absent) t.none)) t.absent t.absent t.Empty) from to → ⊥
 unfolding Spells
@@ -166,6 +172,27 @@ default_without_colon body rest to h = let e = subst (λ mid. the ":" mid h.2.0)
 value_exported : (a : Tree t.expression) (mark : Semi) (from to : Tokens) → Spells (t.ExportDeclaration (t.Value a mark)) from to → ⊥
 unfolding Spells
 value_exported a mark from to h = cc (h.2.0)
+
+-- a semicolon as a part of a default export of a function
+default_function_marked : (at : ℕ) (function : Tree t.function) (from to : Tokens) → Spells (t.ExportDefault at (t.DefaultFunction function) semi.Written) from to → ⊥
+unfolding Spells
+default_function_marked at function from to h = cc (h.2.1.2.0)
+
+-- `import;`
+no_names_before_semicolon : (list : List Pair) (rest to : Tokens) → import_list list (token (k.Sign 6) 6 ∷ rest) to → (token (k.Sign 6) 6 ∷ rest) ≡ to
+unfolding word
+no_names_before_semicolon list rest to (inl h) = h.1
+no_names_before_semicolon list rest to (inr (mid, inl h, from)) = absurd (cc (h.1.0))
+no_names_before_semicolon [] rest to (inr (mid, inr h, from)) = absurd h
+no_names_before_semicolon (one ∷ []) rest to (inr (mid, inr h, from)) = absurd (cc (h.1.1.0.0))
+no_names_before_semicolon (one ∷ (two ∷ list)) rest to (inr (mid, inr h, from)) = absurd (cc (h.1.1.0.0))
+
+import_without_module : (name : List ℕ) (list : List Pair) (mark : Semi) (rest to : Tokens) → Spells (t.Import name list mark) (token (k.Keyword 21) 0 ∷ token (k.Sign 6) 6 ∷ rest) to → ⊥
+unfolding Spells
+import_without_module name list mark rest to h =
+    let names = subst (λ from. import_list list from h.2.0) (sym h.1.1) h.2.1 in
+    let e = subst (λ from. module_name name from h.2.2.0) (sym (no_names_before_semicolon list rest h.2.0 names)) h.2.2.1 in
+    cc (e.0)
 
 -- `(1` is no module, whatever the tree: its one sign is an opening one
 pub open_parenthesis : (items : Tree (t.list t.item)) → spells items (token (k.Sign 2) 0 ∷ token (k.Number (pos 1)) 1 ∷ token k.End 2 ∷ []) → ⊥
