@@ -54,10 +54,20 @@ head_and_body : early (t.more (t.Plain (t.For (t.HeadDeclare false (t.more (t.De
 unfolding failures gather
 head_and_body = refl
 
+-- for (let a, ¦a;;) ;
+head_twice : early (t.more (t.Plain (t.For (t.HeadDeclare false (t.more (t.DeclaratorOf (named_at 9 (codes "a")) t.absent) (t.more (t.DeclaratorOf (named_at 12 (codes "a")) t.absent) t.none))) t.absent t.absent t.Empty)) t.none) ≡ Some (e.DuplicateName 12)
+unfolding failures gather
+head_twice = refl
+
 -- import {a} from "m"; let ¦a;
 import_and_binding : early (t.more (t.Import (codes "m") ((pair_of (named_at 8 (codes "a")) (named_at 8 (codes "a"))) ∷ []) semi.Written) (t.more (t.Plain (t.Declare false (t.more (t.DeclaratorOf (named_at 25 (codes "a")) t.absent) t.none) semi.Written)) t.none)) ≡ Some (e.DuplicateName 25)
 unfolding failures gather
 import_and_binding = refl
+
+-- import {a} from "m"; import {b as ¦a} from "n";
+imports_twice : early (t.more (t.Import (codes "m") ((pair_of (named_at 8 (codes "a")) (named_at 8 (codes "a"))) ∷ []) semi.Written) (t.more (t.Import (codes "n") ((pair_of (named_at 29 (codes "b")) (named_at 34 (codes "a"))) ∷ []) semi.Written) t.none)) ≡ Some (e.DuplicateName 34)
+unfolding failures gather
+imports_twice = refl
 
 -- let f; (function f() {});
 own_name_and_binding : early (t.more (t.Plain (t.Declare false (t.more (t.DeclaratorOf (named_at 4 (codes "f")) t.absent) t.none) semi.Written)) (t.more (t.Plain (t.Value (t.Paren (t.Function (t.FunctionOf 8 (Some (named_at 17 (codes "f"))) f.Plain [] (t.BodyStatements t.none)))) semi.Written)) t.none)) ≡ None
@@ -74,10 +84,35 @@ defaults_twice : early (t.more (t.ExportDefault 7 (t.DefaultValue (t.Number (pos
 unfolding failures gather
 defaults_twice = refl
 
+-- let a; export default 1; export {a as ¦default};
+default_and_name : early (t.more (t.Plain (t.Declare false (t.more (t.DeclaratorOf (named_at 4 (codes "a")) t.absent) t.none) semi.Written)) (t.more (t.ExportDefault 14 (t.DefaultValue (t.Number (pos 1))) semi.Written) (t.more (t.ExportNames ((pair_of (named_at 33 (codes "a")) (named_at 38 (codes "default"))) ∷ []) semi.Written) t.none))) ≡ Some (e.DuplicateExport 38)
+unfolding failures gather
+default_and_name = refl
+
+-- export {a} from "m"; export {b as ¦a} from "n";
+exported_from_twice : early (t.more (t.ExportFrom (codes "m") ((pair_of (named_at 8 (codes "a")) (named_at 8 (codes "a"))) ∷ []) semi.Written) (t.more (t.ExportFrom (codes "n") ((pair_of (named_at 29 (codes "b")) (named_at 34 (codes "a"))) ∷ []) semi.Written) t.none)) ≡ Some (e.DuplicateExport 34)
+unfolding failures gather
+exported_from_twice = refl
+
 -- export { ¦a };
 exported_undeclared : early (t.more (t.ExportNames ((pair_of (named_at 9 (codes "a")) (named_at 9 (codes "a"))) ∷ []) semi.Written) t.none) ≡ Some (e.ExportUndeclared 9)
 unfolding failures gather
 exported_undeclared = refl
+
+-- export {¦a as b};
+exported_undeclared_as : early (t.more (t.ExportNames ((pair_of (named_at 8 (codes "a")) (named_at 13 (codes "b"))) ∷ []) semi.Written) t.none) ≡ Some (e.ExportUndeclared 8)
+unfolding failures gather
+exported_undeclared_as = refl
+
+-- { let a; } export {¦a};
+exported_of_block : early (t.more (t.Plain (t.Block (t.more (t.Declare false (t.more (t.DeclaratorOf (named_at 6 (codes "a")) t.absent) t.none) semi.Written) t.none))) (t.more (t.ExportNames ((pair_of (named_at 19 (codes "a")) (named_at 19 (codes "a"))) ∷ []) semi.Written) t.none)) ≡ Some (e.ExportUndeclared 19)
+unfolding failures gather
+exported_of_block = refl
+
+-- export {a} from "m";
+exported_from_undeclared : early (t.more (t.ExportFrom (codes "m") ((pair_of (named_at 8 (codes "a")) (named_at 8 (codes "a"))) ∷ []) semi.Written) t.none) ≡ None
+unfolding failures gather
+exported_from_undeclared = refl
 
 -- let a; export { a };
 exported_declared : early (t.more (t.Plain (t.Declare false (t.more (t.DeclaratorOf (named_at 4 (codes "a")) t.absent) t.none) semi.Written)) (t.more (t.ExportNames ((pair_of (named_at 16 (codes "a")) (named_at 16 (codes "a"))) ∷ []) semi.Written) t.none)) ≡ None
@@ -113,6 +148,26 @@ reserved_parameter = refl
 reserved_catch : early (t.more (t.Plain (t.Try t.none (Some (named_at 15 (codes "Infinity"))) (t.present t.none) t.absent)) t.none) ≡ Some (e.ReservedName 15)
 unfolding failures gather
 reserved_catch = refl
+
+-- import {a as ¦eval} from "m";
+reserved_import : early (t.more (t.Import (codes "m") ((pair_of (named_at 8 (codes "a")) (named_at 13 (codes "eval"))) ∷ []) semi.Written) t.none) ≡ Some (e.ReservedName 13)
+unfolding failures gather
+reserved_import = refl
+
+-- import {eval as a} from "m";
+reserved_in_other_module : early (t.more (t.Import (codes "m") ((pair_of (named_at 8 (codes "eval")) (named_at 16 (codes "a"))) ∷ []) semi.Written) t.none) ≡ None
+unfolding failures gather
+reserved_in_other_module = refl
+
+-- class ¦arguments { }
+reserved_class : early (t.more (t.Plain (t.ClassStatement (t.ClassOf 0 (Some (named_at 6 (codes "arguments"))) t.absent t.none))) t.none) ≡ Some (e.ReservedName 6)
+unfolding failures gather
+reserved_class = refl
+
+-- function ¦NaN() { }
+reserved_function : early (t.more (t.Plain (t.FunctionStatement (t.FunctionOf 0 (Some (named_at 9 (codes "NaN"))) f.Plain [] (t.BodyStatements t.none)))) t.none) ≡ Some (e.ReservedName 9)
+unfolding failures gather
+reserved_function = refl
 
 -- ({ ¦globalThis });
 reserved_short : early (t.more (t.Plain (t.Value (t.Paren (t.Object (t.more (t.MemberOf 3 false m.Short (t.KeyWord (codes "globalThis")) t.absent t.absent) t.none))) semi.Written)) t.none) ≡ Some (e.ReservedName 3)
@@ -209,6 +264,11 @@ continue_in_loop : early (t.more (t.Plain (t.DoWhile (t.Block (t.more (t.If (t.N
 unfolding failures gather
 continue_in_loop = refl
 
+-- while (1) { () => { ¦continue; }; }
+continue_in_function : early (t.more (t.Plain (t.While (t.Number (pos 1)) (t.Block (t.more (t.Value (t.Function (t.FunctionOf 12 None f.Arrow [] (t.BodyStatements (t.more (t.Continue 20 semi.Written) t.none)))) semi.Written) t.none)))) t.none) ≡ Some (e.StrayContinue 20)
+unfolding failures gather
+continue_in_function = refl
+
 -- { ¦return; }
 return_outside : early (t.more (t.Plain (t.Block (t.more (t.Return 2 t.absent semi.Written) t.none))) t.none) ≡ Some (e.StrayReturn 2)
 unfolding failures gather
@@ -229,10 +289,30 @@ super_in_method : early (t.more (t.Plain (t.Value (t.Paren (t.Object (t.more (t.
 unfolding failures gather
 super_in_method = refl
 
+-- ({ get a() { return super.x; } });
+super_in_getter : early (t.more (t.Plain (t.Value (t.Paren (t.Object (t.more (t.MemberOf 3 false m.Getter (t.KeyWord (codes "a")) t.absent (t.present (t.FunctionOf 3 None f.Getter [] (t.BodyStatements (t.more (t.Return 13 (t.present (t.SuperDot 20 (codes "x"))) semi.Written) t.none))))) t.none))) semi.Written)) t.none) ≡ None
+unfolding failures gather
+super_in_getter = refl
+
+-- class A { static set a(b) { super.x; } }
+super_in_setter : early (t.more (t.Plain (t.ClassStatement (t.ClassOf 0 (Some (named_at 6 (codes "A"))) t.absent (t.more (t.MemberOf 10 true m.Setter (t.KeyWord (codes "a")) t.absent (t.present (t.FunctionOf 10 None f.Setter ((named_at 23 (codes "b")) ∷ []) (t.BodyStatements (t.more (t.Value (t.SuperDot 28 (codes "x")) semi.Written) t.none))))) t.none)))) t.none) ≡ None
+unfolding failures gather
+super_in_setter = refl
+
 -- ({ m() { () => ¦super.x; } });
 super_in_arrow : early (t.more (t.Plain (t.Value (t.Paren (t.Object (t.more (t.MemberOf 3 false m.Method (t.KeyWord (codes "m")) t.absent (t.present (t.FunctionOf 3 None f.Method [] (t.BodyStatements (t.more (t.Value (t.Function (t.FunctionOf 9 None f.Arrow [] (t.BodyExpression (t.SuperDot 15 (codes "x"))))) semi.Written) t.none))))) t.none))) semi.Written)) t.none) ≡ Some (e.StraySuper 15)
 unfolding failures gather
 super_in_arrow = refl
+
+-- function f() { ¦super.x; }
+super_in_function : early (t.more (t.Plain (t.FunctionStatement (t.FunctionOf 0 (Some (named_at 9 (codes "f"))) f.Plain [] (t.BodyStatements (t.more (t.Value (t.SuperDot 15 (codes "x")) semi.Written) t.none))))) t.none) ≡ Some (e.StraySuper 15)
+unfolding failures gather
+super_in_function = refl
+
+-- ({ m() { (function () { ¦super.x; }); } });
+super_in_function_of_method : early (t.more (t.Plain (t.Value (t.Paren (t.Object (t.more (t.MemberOf 3 false m.Method (t.KeyWord (codes "m")) t.absent (t.present (t.FunctionOf 3 None f.Method [] (t.BodyStatements (t.more (t.Value (t.Paren (t.Function (t.FunctionOf 10 None f.Plain [] (t.BodyStatements (t.more (t.Value (t.SuperDot 24 (codes "x")) semi.Written) t.none))))) semi.Written) t.none))))) t.none))) semi.Written)) t.none) ≡ Some (e.StraySuper 24)
+unfolding failures gather
+super_in_function_of_method = refl
 
 -- class A { constructor() { ¦super(); } }
 super_call_in_base : early (t.more (t.Plain (t.ClassStatement (t.ClassOf 0 (Some (named_at 6 (codes "A"))) t.absent (t.more (t.MemberOf 10 false m.Method (t.KeyWord (codes "constructor")) t.absent (t.present (t.FunctionOf 10 None f.Base [] (t.BodyStatements (t.more (t.Value (t.SuperCall 26 t.none) semi.Written) t.none))))) t.none)))) t.none) ≡ Some (e.StraySuper 26)
@@ -243,6 +323,16 @@ super_call_in_base = refl
 super_call_in_derived : early (t.more (t.Plain (t.ClassStatement (t.ClassOf 0 (Some (named_at 6 (codes "A"))) (t.present (t.Name (named_at 16 (codes "Error")))) (t.more (t.MemberOf 24 false m.Method (t.KeyWord (codes "constructor")) t.absent (t.present (t.FunctionOf 24 None f.Derived [] (t.BodyStatements (t.more (t.Value (t.SuperCall 40 t.none) semi.Written) t.none))))) t.none)))) t.none) ≡ None
 unfolding failures gather
 super_call_in_derived = refl
+
+-- class A extends Error { constructor() { () => ¦super(); } }
+super_call_in_arrow : early (t.more (t.Plain (t.ClassStatement (t.ClassOf 0 (Some (named_at 6 (codes "A"))) (t.present (t.Name (named_at 16 (codes "Error")))) (t.more (t.MemberOf 24 false m.Method (t.KeyWord (codes "constructor")) t.absent (t.present (t.FunctionOf 24 None f.Derived [] (t.BodyStatements (t.more (t.Value (t.Function (t.FunctionOf 40 None f.Arrow [] (t.BodyExpression (t.SuperCall 46 t.none)))) semi.Written) t.none))))) t.none)))) t.none) ≡ Some (e.StraySuper 46)
+unfolding failures gather
+super_call_in_arrow = refl
+
+-- class A extends Error { m() { ¦super(); } }
+super_call_in_method : early (t.more (t.Plain (t.ClassStatement (t.ClassOf 0 (Some (named_at 6 (codes "A"))) (t.present (t.Name (named_at 16 (codes "Error")))) (t.more (t.MemberOf 24 false m.Method (t.KeyWord (codes "m")) t.absent (t.present (t.FunctionOf 24 None f.Method [] (t.BodyStatements (t.more (t.Value (t.SuperCall 30 t.none) semi.Written) t.none))))) t.none)))) t.none) ≡ Some (e.StraySuper 30)
+unfolding failures gather
+super_call_in_method = refl
 
 -- class A { constructor() { super[0]; } }
 super_in_base : early (t.more (t.Plain (t.ClassStatement (t.ClassOf 0 (Some (named_at 6 (codes "A"))) t.absent (t.more (t.MemberOf 10 false m.Method (t.KeyWord (codes "constructor")) t.absent (t.present (t.FunctionOf 10 None f.Base [] (t.BodyStatements (t.more (t.Value (t.SuperIndex 26 (t.Number (pos 0))) semi.Written) t.none))))) t.none)))) t.none) ≡ None
@@ -269,6 +359,16 @@ super_deleted : early (t.more (t.Plain (t.Value (t.Paren (t.Object (t.more (t.Me
 unfolding failures gather
 super_deleted = refl
 
+-- ({ m() { ¦delete super[0]; } });
+super_key_deleted : early (t.more (t.Plain (t.Value (t.Paren (t.Object (t.more (t.MemberOf 3 false m.Method (t.KeyWord (codes "m")) t.absent (t.present (t.FunctionOf 3 None f.Method [] (t.BodyStatements (t.more (t.Value (t.Delete 9 (t.SuperIndex 16 (t.Number (pos 0)))) semi.Written) t.none))))) t.none))) semi.Written)) t.none) ≡ Some (e.DeleteName 9)
+unfolding failures gather
+super_key_deleted = refl
+
+-- ({ m() { delete super[0].x; } });
+key_deleted : early (t.more (t.Plain (t.Value (t.Paren (t.Object (t.more (t.MemberOf 3 false m.Method (t.KeyWord (codes "m")) t.absent (t.present (t.FunctionOf 3 None f.Method [] (t.BodyStatements (t.more (t.Value (t.Delete 9 (t.Dot (t.SuperIndex 16 (t.Number (pos 0))) (codes "x"))) semi.Written) t.none))))) t.none))) semi.Written)) t.none) ≡ None
+unfolding failures gather
+key_deleted = refl
+
 -- class A { constructor() {} ¦constructor() {} }
 constructors : early (t.more (t.Plain (t.ClassStatement (t.ClassOf 0 (Some (named_at 6 (codes "A"))) t.absent (t.more (t.MemberOf 10 false m.Method (t.KeyWord (codes "constructor")) t.absent (t.present (t.FunctionOf 10 None f.Base [] (t.BodyStatements t.none)))) (t.more (t.MemberOf 27 false m.Method (t.KeyWord (codes "constructor")) t.absent (t.present (t.FunctionOf 27 None f.Base [] (t.BodyStatements t.none)))) t.none))))) t.none) ≡ Some (e.DuplicateConstructor 27)
 unfolding failures gather
@@ -283,6 +383,21 @@ constructor_accessor = refl
 static_prototype : early (t.more (t.Plain (t.ClassStatement (t.ClassOf 0 (Some (named_at 6 (codes "A"))) t.absent (t.more (t.MemberOf 10 true m.Method (t.KeyWord (codes "prototype")) t.absent (t.present (t.FunctionOf 10 None f.Method [] (t.BodyStatements t.none)))) t.none)))) t.none) ≡ Some (e.DuplicateConstructor 10)
 unfolding failures gather
 static_prototype = refl
+
+-- class A { ¦static get prototype() { } }
+static_prototype_getter : early (t.more (t.Plain (t.ClassStatement (t.ClassOf 0 (Some (named_at 6 (codes "A"))) t.absent (t.more (t.MemberOf 10 true m.Getter (t.KeyWord (codes "prototype")) t.absent (t.present (t.FunctionOf 10 None f.Getter [] (t.BodyStatements t.none)))) t.none)))) t.none) ≡ Some (e.DuplicateConstructor 10)
+unfolding failures gather
+static_prototype_getter = refl
+
+-- class A { prototype() { } }
+prototype_method_of_class : early (t.more (t.Plain (t.ClassStatement (t.ClassOf 0 (Some (named_at 6 (codes "A"))) t.absent (t.more (t.MemberOf 10 false m.Method (t.KeyWord (codes "prototype")) t.absent (t.present (t.FunctionOf 10 None f.Method [] (t.BodyStatements t.none)))) t.none)))) t.none) ≡ None
+unfolding failures gather
+prototype_method_of_class = refl
+
+-- class A { static ["prototype"]() { } }
+static_prototype_computed : early (t.more (t.Plain (t.ClassStatement (t.ClassOf 0 (Some (named_at 6 (codes "A"))) t.absent (t.more (t.MemberOf 10 true m.Method (t.KeyComputed (t.String (codes "prototype"))) t.absent (t.present (t.FunctionOf 10 None f.Method [] (t.BodyStatements t.none)))) t.none)))) t.none) ≡ None
+unfolding failures gather
+static_prototype_computed = refl
 
 -- class A { static constructor() {} constructor() {} }
 static_constructor : early (t.more (t.Plain (t.ClassStatement (t.ClassOf 0 (Some (named_at 6 (codes "A"))) t.absent (t.more (t.MemberOf 10 true m.Method (t.KeyWord (codes "constructor")) t.absent (t.present (t.FunctionOf 10 None f.Method [] (t.BodyStatements t.none)))) (t.more (t.MemberOf 34 false m.Method (t.KeyWord (codes "constructor")) t.absent (t.present (t.FunctionOf 34 None f.Base [] (t.BodyStatements t.none)))) t.none))))) t.none) ≡ None

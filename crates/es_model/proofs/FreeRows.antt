@@ -9,7 +9,7 @@ use Rattle.es_model.specs.declared.place.Place.{Place}
 use Rattle.es_model.specs.declared.place.Place.TheVariants.{Local, Boxed, Outer, Import, Global, Unbound}
 use Rattle.es_model.specs.Tree as t
 use Rattle.es_model.specs.Tree.{Tree}
-use Rattle.es_model.specs.Scopes.{gather}
+use Rattle.es_model.specs.Scopes.{Enclosing, Binding, Top, Inner, Receiver, gather}
 use Rattle.es_model.specs.Functions.{functions, writes_constructor, function_count}
 use Rattle.es_model.specs.FreeNames.{Mention, mentions, free, captured, places, place_of_mention, place_count, this_cell, captures}
 use Rattle.es_model.proofs.Rows.{named_at, pair_of}
@@ -273,6 +273,234 @@ used_before_captures_1 : captures used_before_text 1 ≡ []
 unfolding gather functions writes_constructor mentions free captured places place_of_mention place_count this_cell captures
 used_before_captures_1 = refl
 
+-- function f(a) { () => a; }
+abbrev captured_parameter_text : Tree (t.list t.item)
+captured_parameter_text = (t.more (t.Plain (t.FunctionStatement (t.FunctionOf 0 (Some (named_at 9 (codes "f"))) f.Plain ((named_at 11 (codes "a")) ∷ []) (t.BodyStatements (t.more (t.Value (t.Function (t.FunctionOf 16 None f.Arrow [] (t.BodyExpression (t.Name (named_at 22 (codes "a")))))) semi.Written) t.none))))) t.none)
+
+captured_parameter : placed captured_parameter_text ≡ (Some (Outer 0) ∷ Some (Boxed 0) ∷ Some (Outer 0) ∷ [])
+unfolding gather functions writes_constructor mentions free captured places place_of_mention place_count this_cell captures
+captured_parameter = refl
+
+captured_parameter_captures_1 : captures captured_parameter_text 1 ≡ []
+unfolding gather functions writes_constructor mentions free captured places place_of_mention place_count this_cell captures
+captured_parameter_captures_1 = refl
+
+captured_parameter_captures_2 : captures captured_parameter_text 2 ≡ (capture false 0 ∷ [])
+unfolding gather functions writes_constructor mentions free captured places place_of_mention place_count this_cell captures
+captured_parameter_captures_2 = refl
+
+-- function f(a, b) { () => b; }
+abbrev second_parameter_captured_text : Tree (t.list t.item)
+second_parameter_captured_text = (t.more (t.Plain (t.FunctionStatement (t.FunctionOf 0 (Some (named_at 9 (codes "f"))) f.Plain ((named_at 11 (codes "a")) ∷ (named_at 14 (codes "b")) ∷ []) (t.BodyStatements (t.more (t.Value (t.Function (t.FunctionOf 19 None f.Arrow [] (t.BodyExpression (t.Name (named_at 25 (codes "b")))))) semi.Written) t.none))))) t.none)
+
+second_parameter_captured : placed second_parameter_captured_text ≡ (Some (Outer 0) ∷ Some (Local 0) ∷ Some (Boxed 1) ∷ Some (Outer 0) ∷ [])
+unfolding gather functions writes_constructor mentions free captured places place_of_mention place_count this_cell captures
+second_parameter_captured = refl
+
+second_parameter_captured_captures_2 : captures second_parameter_captured_text 2 ≡ (capture false 1 ∷ [])
+unfolding gather functions writes_constructor mentions free captured places place_of_mention place_count this_cell captures
+second_parameter_captured_captures_2 = refl
+
+-- (class A extends A { });
+abbrev own_name_in_parent_text : Tree (t.list t.item)
+own_name_in_parent_text = (t.more (t.Plain (t.Value (t.Paren (t.Class (t.ClassOf 1 (Some (named_at 7 (codes "A"))) (t.present (t.Name (named_at 17 (codes "A")))) t.none))) semi.Written)) t.none)
+
+own_name_in_parent : placed own_name_in_parent_text ≡ (Some (Local 0) ∷ Some (Local 0) ∷ [])
+unfolding gather functions writes_constructor mentions free captured places place_of_mention place_count this_cell captures
+own_name_in_parent = refl
+
+own_name_in_parent_captures_1 : captures own_name_in_parent_text 1 ≡ []
+unfolding gather functions writes_constructor mentions free captured places place_of_mention place_count this_cell captures
+own_name_in_parent_captures_1 = refl
+
+-- class A { [A]() { } }
+abbrev own_name_in_key_text : Tree (t.list t.item)
+own_name_in_key_text = (t.more (t.Plain (t.ClassStatement (t.ClassOf 0 (Some (named_at 6 (codes "A"))) t.absent (t.more (t.MemberOf 10 false m.Method (t.KeyComputed (t.Name (named_at 11 (codes "A")))) t.absent (t.present (t.FunctionOf 10 None f.Method [] (t.BodyStatements t.none)))) t.none)))) t.none)
+
+own_name_in_key : placed own_name_in_key_text ≡ (Some (Outer 0) ∷ Some (Local 0) ∷ Some (Local 0) ∷ [])
+unfolding gather functions writes_constructor mentions free captured places place_of_mention place_count this_cell captures
+own_name_in_key = refl
+
+own_name_in_key_captures_2 : captures own_name_in_key_text 2 ≡ []
+unfolding gather functions writes_constructor mentions free captured places place_of_mention place_count this_cell captures
+own_name_in_key_captures_2 = refl
+
+-- function f() { () => () => this; }
+abbrev this_through_two_arrows_text : Tree (t.list t.item)
+this_through_two_arrows_text = (t.more (t.Plain (t.FunctionStatement (t.FunctionOf 0 (Some (named_at 9 (codes "f"))) f.Plain [] (t.BodyStatements (t.more (t.Value (t.Function (t.FunctionOf 15 None f.Arrow [] (t.BodyExpression (t.Function (t.FunctionOf 21 None f.Arrow [] (t.BodyExpression t.This)))))) semi.Written) t.none))))) t.none)
+
+this_through_two_arrows : placed this_through_two_arrows_text ≡ (Some (Outer 0) ∷ Some (Outer 0) ∷ [])
+unfolding gather functions writes_constructor mentions free captured places place_of_mention place_count this_cell captures
+this_through_two_arrows = refl
+
+this_through_two_arrows_captures_1 : captures this_through_two_arrows_text 1 ≡ []
+unfolding gather functions writes_constructor mentions free captured places place_of_mention place_count this_cell captures
+this_through_two_arrows_captures_1 = refl
+
+this_through_two_arrows_captures_2 : captures this_through_two_arrows_text 2 ≡ (capture false 0 ∷ [])
+unfolding gather functions writes_constructor mentions free captured places place_of_mention place_count this_cell captures
+this_through_two_arrows_captures_2 = refl
+
+this_through_two_arrows_captures_3 : captures this_through_two_arrows_text 3 ≡ (capture true 0 ∷ [])
+unfolding gather functions writes_constructor mentions free captured places place_of_mention place_count this_cell captures
+this_through_two_arrows_captures_3 = refl
+
+this_through_two_arrows_this_cell_1 : this_cell this_through_two_arrows_text 1 ≡ Some 0
+unfolding gather functions writes_constructor mentions free captured places place_of_mention place_count this_cell captures
+this_through_two_arrows_this_cell_1 = refl
+
+this_through_two_arrows_this_cell_2 : this_cell this_through_two_arrows_text 2 ≡ None
+unfolding gather functions writes_constructor mentions free captured places place_of_mention place_count this_cell captures
+this_through_two_arrows_this_cell_2 = refl
+
+this_through_two_arrows_place_count_1 : place_count this_through_two_arrows_text 1 ≡ 1
+unfolding gather functions writes_constructor mentions free captured places place_of_mention place_count this_cell captures
+this_through_two_arrows_place_count_1 = refl
+
+-- ({ m() { this; () => this; } });
+abbrev this_in_method_text : Tree (t.list t.item)
+this_in_method_text = (t.more (t.Plain (t.Value (t.Paren (t.Object (t.more (t.MemberOf 3 false m.Method (t.KeyWord (codes "m")) t.absent (t.present (t.FunctionOf 3 None f.Method [] (t.BodyStatements (t.more (t.Value t.This semi.Written) (t.more (t.Value (t.Function (t.FunctionOf 15 None f.Arrow [] (t.BodyExpression t.This))) semi.Written) t.none)))))) t.none))) semi.Written)) t.none)
+
+this_in_method : placed this_in_method_text ≡ (Some (Outer 0) ∷ [])
+unfolding gather functions writes_constructor mentions free captured places place_of_mention place_count this_cell captures
+this_in_method = refl
+
+this_in_method_captures_2 : captures this_in_method_text 2 ≡ (capture false 0 ∷ [])
+unfolding gather functions writes_constructor mentions free captured places place_of_mention place_count this_cell captures
+this_in_method_captures_2 = refl
+
+this_in_method_this_cell_1 : this_cell this_in_method_text 1 ≡ Some 0
+unfolding gather functions writes_constructor mentions free captured places place_of_mention place_count this_cell captures
+this_in_method_this_cell_1 = refl
+
+-- ({ m() { this; } });
+abbrev this_in_method_alone_text : Tree (t.list t.item)
+this_in_method_alone_text = (t.more (t.Plain (t.Value (t.Paren (t.Object (t.more (t.MemberOf 3 false m.Method (t.KeyWord (codes "m")) t.absent (t.present (t.FunctionOf 3 None f.Method [] (t.BodyStatements (t.more (t.Value t.This semi.Written) t.none))))) t.none))) semi.Written)) t.none)
+
+this_in_method_alone_this_cell_1 : this_cell this_in_method_alone_text 1 ≡ None
+unfolding gather functions writes_constructor mentions free captured places place_of_mention place_count this_cell captures
+this_in_method_alone_this_cell_1 = refl
+
+this_in_method_alone_place_count_1 : place_count this_in_method_alone_text 1 ≡ 0
+unfolding gather functions writes_constructor mentions free captured places place_of_mention place_count this_cell captures
+this_in_method_alone_place_count_1 = refl
+
+-- class A extends Error { constructor() { super(); () => this; } }
+abbrev this_in_derived_constructor_text : Tree (t.list t.item)
+this_in_derived_constructor_text = (t.more (t.Plain (t.ClassStatement (t.ClassOf 0 (Some (named_at 6 (codes "A"))) (t.present (t.Name (named_at 16 (codes "Error")))) (t.more (t.MemberOf 24 false m.Method (t.KeyWord (codes "constructor")) t.absent (t.present (t.FunctionOf 24 None f.Derived [] (t.BodyStatements (t.more (t.Value (t.SuperCall 40 t.none) semi.Written) (t.more (t.Value (t.Function (t.FunctionOf 49 None f.Arrow [] (t.BodyExpression t.This))) semi.Written) t.none)))))) t.none)))) t.none)
+
+this_in_derived_constructor : placed this_in_derived_constructor_text ≡ (Some (Outer 0) ∷ Some (Local 0) ∷ Some (Global 3) ∷ Some (Outer 0) ∷ [])
+unfolding gather functions writes_constructor mentions free captured places place_of_mention place_count this_cell captures
+this_in_derived_constructor = refl
+
+this_in_derived_constructor_captures_1 : captures this_in_derived_constructor_text 1 ≡ []
+unfolding gather functions writes_constructor mentions free captured places place_of_mention place_count this_cell captures
+this_in_derived_constructor_captures_1 = refl
+
+this_in_derived_constructor_captures_2 : captures this_in_derived_constructor_text 2 ≡ (capture false 0 ∷ [])
+unfolding gather functions writes_constructor mentions free captured places place_of_mention place_count this_cell captures
+this_in_derived_constructor_captures_2 = refl
+
+this_in_derived_constructor_this_cell_1 : this_cell this_in_derived_constructor_text 1 ≡ Some 0
+unfolding gather functions writes_constructor mentions free captured places place_of_mention place_count this_cell captures
+this_in_derived_constructor_this_cell_1 = refl
+
+-- export default function f() { f; }
+abbrev default_function_name_text : Tree (t.list t.item)
+default_function_name_text = (t.more (t.ExportDefault 7 (t.DefaultFunction (t.FunctionOf 15 (Some (named_at 24 (codes "f"))) f.Plain [] (t.BodyStatements (t.more (t.Value (t.Name (named_at 30 (codes "f"))) semi.Written) t.none)))) semi.Missing) t.none)
+
+default_function_name : placed default_function_name_text ≡ (Some (Outer 0) ∷ Some (Outer 0) ∷ [])
+unfolding gather functions writes_constructor mentions free captured places place_of_mention place_count this_cell captures
+default_function_name = refl
+
+default_function_name_captures_1 : captures default_function_name_text 1 ≡ (capture true 0 ∷ [])
+unfolding gather functions writes_constructor mentions free captured places place_of_mention place_count this_cell captures
+default_function_name_captures_1 = refl
+
+-- export default class A { m() { A; } }
+abbrev default_class_name_text : Tree (t.list t.item)
+default_class_name_text = (t.more (t.ExportDefault 7 (t.DefaultClass (t.ClassOf 15 (Some (named_at 21 (codes "A"))) t.absent (t.more (t.MemberOf 25 false m.Method (t.KeyWord (codes "m")) t.absent (t.present (t.FunctionOf 25 None f.Method [] (t.BodyStatements (t.more (t.Value (t.Name (named_at 31 (codes "A"))) semi.Written) t.none))))) t.none))) semi.Missing) t.none)
+
+default_class_name : placed default_class_name_text ≡ (Some (Outer 0) ∷ Some (Boxed 0) ∷ Some (Outer 0) ∷ [])
+unfolding gather functions writes_constructor mentions free captured places place_of_mention place_count this_cell captures
+default_class_name = refl
+
+default_class_name_captures_1 : captures default_class_name_text 1 ≡ []
+unfolding gather functions writes_constructor mentions free captured places place_of_mention place_count this_cell captures
+default_class_name_captures_1 = refl
+
+default_class_name_captures_2 : captures default_class_name_text 2 ≡ (capture false 0 ∷ [])
+unfolding gather functions writes_constructor mentions free captured places place_of_mention place_count this_cell captures
+default_class_name_captures_2 = refl
+
+-- try { let a; } catch (e) { e; } finally { let b; }
+abbrev catch_and_finally_text : Tree (t.list t.item)
+catch_and_finally_text = (t.more (t.Plain (t.Try (t.more (t.Declare false (t.more (t.DeclaratorOf (named_at 10 (codes "a")) t.absent) t.none) semi.Written) t.none) (Some (named_at 22 (codes "e"))) (t.present (t.more (t.Value (t.Name (named_at 27 (codes "e"))) semi.Written) t.none)) (t.present (t.more (t.Declare false (t.more (t.DeclaratorOf (named_at 46 (codes "b")) t.absent) t.none) semi.Written) t.none)))) t.none)
+
+catch_and_finally : placed catch_and_finally_text ≡ (Some (Local 0) ∷ Some (Local 1) ∷ Some (Local 2) ∷ Some (Local 3) ∷ Some (Local 3) ∷ Some (Local 4) ∷ [])
+unfolding gather functions writes_constructor mentions free captured places place_of_mention place_count this_cell captures
+catch_and_finally = refl
+
+catch_and_finally_place_count_0 : place_count catch_and_finally_text 0 ≡ 5
+unfolding gather functions writes_constructor mentions free captured places place_of_mention place_count this_cell captures
+catch_and_finally_place_count_0 = refl
+
+-- try { } catch (e) { () => e; } finally { }
+abbrev captured_in_catch_text : Tree (t.list t.item)
+captured_in_catch_text = (t.more (t.Plain (t.Try t.none (Some (named_at 15 (codes "e"))) (t.present (t.more (t.Value (t.Function (t.FunctionOf 20 None f.Arrow [] (t.BodyExpression (t.Name (named_at 26 (codes "e")))))) semi.Written) t.none)) (t.present t.none))) t.none)
+
+captured_in_catch : placed captured_in_catch_text ≡ (Some (Local 0) ∷ Some (Local 1) ∷ Some (Boxed 2) ∷ Some (Outer 0) ∷ [])
+unfolding gather functions writes_constructor mentions free captured places place_of_mention place_count this_cell captures
+captured_in_catch = refl
+
+captured_in_catch_captures_1 : captures captured_in_catch_text 1 ≡ (capture false 2 ∷ [])
+unfolding gather functions writes_constructor mentions free captured places place_of_mention place_count this_cell captures
+captured_in_catch_captures_1 = refl
+
+-- a binding of a scope within, that lies in some functions
+abbrev inner_binding : List ℕ → ℕ → List Enclosing → Binding
+inner_binding name at lies = record { name = name; at = at; role = Inner; lies = lies }
+
+closed_over_free : free closed_over_text 13 ≡ (inner_binding (codes "a") 6 [] ∷ [])
+unfolding gather mentions free captured
+closed_over_free = refl
+
+captured_in_closure : captured closed_over_text (inner_binding (codes "a") 6 []) ≡ true
+unfolding gather mentions free captured
+captured_in_closure = refl
+
+not_captured_in_block : captured in_block_text (inner_binding (codes "a") 6 []) ≡ false
+unfolding gather mentions free captured
+not_captured_in_block = refl
+
+-- a binding of a module's top is captured, though no function mentions it
+top_is_captured : captured top_level_text (record { name = codes "a"; at = 4; role = Top; lies = [] }) ≡ true
+unfolding gather mentions free captured
+top_is_captured = refl
+
+-- what a function within has free the functions round it have free too
+outer_arrow_free : free through_functions_text 9 ≡ (inner_binding (codes "a") 6 [] ∷ [])
+unfolding gather mentions free captured
+outer_arrow_free = refl
+
+inner_arrow_free : free through_functions_text 15 ≡ (inner_binding (codes "a") 6 [] ∷ [])
+unfolding gather mentions free captured
+inner_arrow_free = refl
+
+-- a function has its own parameters and `this` not free, and an arrow has the `this` round it
+this_of_arrow_free_1 : free this_of_arrow_text 0 ≡ []
+unfolding gather mentions free captured
+this_of_arrow_free_1 = refl
+
+this_of_arrow_free_2 : free this_of_arrow_text 16 ≡ (record { name = []; at = 0; role = Receiver; lies = record { at = 0; kind = f.Plain } ∷ [] } ∷ [])
+unfolding gather mentions free captured
+this_of_arrow_free_2 = refl
+
+-- an unbound name is no free name
+method_before_key_free : free method_before_key_text 4 ≡ []
+unfolding gather mentions free captured
+method_before_key_free = refl
+
 this_of_arrow_this_cell_1 : this_cell this_of_arrow_text 1 ≡ Some 1
 unfolding gather functions writes_constructor mentions free captured places place_of_mention place_count this_cell captures
 this_of_arrow_this_cell_1 = refl
@@ -324,3 +552,58 @@ method_before_key_count = refl
 through_functions_count : function_count through_functions_text ≡ 3
 unfolding gather functions writes_constructor mentions free captured places place_of_mention place_count this_cell captures
 through_functions_count = refl
+
+-- a module without items: its body alone
+empty_module_count : function_count t.none ≡ 1
+unfolding functions writes_constructor
+empty_module_count = refl
+
+-- import "m"; export default function () { }
+import_count : function_count (t.more (t.Import (codes "m") [] semi.Written) (t.more (t.ExportDefault 19 (t.DefaultFunction (t.FunctionOf 27 None f.Plain [] (t.BodyStatements t.none))) semi.Missing) t.none)) ≡ 2
+unfolding functions writes_constructor
+import_count = refl
+
+-- class A extends Error { }
+derived_generated_count : function_count (t.more (t.Plain (t.ClassStatement (t.ClassOf 0 (Some (named_at 6 (codes "A"))) (t.present (t.Name (named_at 16 (codes "Error")))) t.none))) t.none) ≡ 2
+unfolding functions writes_constructor
+derived_generated_count = refl
+
+-- class A { constructor() { } }
+written_constructor_count : function_count (t.more (t.Plain (t.ClassStatement (t.ClassOf 0 (Some (named_at 6 (codes "A"))) t.absent (t.more (t.MemberOf 10 false m.Method (t.KeyWord (codes "constructor")) t.absent (t.present (t.FunctionOf 10 None f.Base [] (t.BodyStatements t.none)))) t.none)))) t.none) ≡ 2
+unfolding functions writes_constructor
+written_constructor_count = refl
+
+-- class A extends Error { constructor() { super(); } }
+derived_constructor_count : function_count (t.more (t.Plain (t.ClassStatement (t.ClassOf 0 (Some (named_at 6 (codes "A"))) (t.present (t.Name (named_at 16 (codes "Error")))) (t.more (t.MemberOf 24 false m.Method (t.KeyWord (codes "constructor")) t.absent (t.present (t.FunctionOf 24 None f.Derived [] (t.BodyStatements (t.more (t.Value (t.SuperCall 40 t.none) semi.Written) t.none))))) t.none)))) t.none) ≡ 2
+unfolding functions writes_constructor
+derived_constructor_count = refl
+
+-- class A { static constructor() { } }: a static member is no constructor
+static_constructor_count : function_count (t.more (t.Plain (t.ClassStatement (t.ClassOf 0 (Some (named_at 6 (codes "A"))) t.absent (t.more (t.MemberOf 10 true m.Method (t.KeyWord (codes "constructor")) t.absent (t.present (t.FunctionOf 10 None f.Method [] (t.BodyStatements t.none)))) t.none)))) t.none) ≡ 3
+unfolding functions writes_constructor
+static_constructor_count = refl
+
+-- ({ get a() { }, set a(b) { } });
+accessors_count : function_count (t.more (t.Plain (t.Value (t.Paren (t.Object (t.more (t.MemberOf 3 false m.Getter (t.KeyWord (codes "a")) t.absent (t.present (t.FunctionOf 3 None f.Getter [] (t.BodyStatements t.none)))) (t.more (t.MemberOf 16 false m.Setter (t.KeyWord (codes "a")) t.absent (t.present (t.FunctionOf 16 None f.Setter ((named_at 22 (codes "b")) ∷ []) (t.BodyStatements t.none)))) t.none)))) semi.Written)) t.none) ≡ 3
+unfolding functions writes_constructor
+accessors_count = refl
+
+-- ({ constructor() { } });
+object_constructor_count : function_count (t.more (t.Plain (t.Value (t.Paren (t.Object (t.more (t.MemberOf 3 false m.Method (t.KeyWord (codes "constructor")) t.absent (t.present (t.FunctionOf 3 None f.Method [] (t.BodyStatements t.none)))) t.none))) semi.Written)) t.none) ≡ 2
+unfolding functions writes_constructor
+object_constructor_count = refl
+
+-- class A { [() => 1]() { } }: the generated constructor, the method and the arrow
+key_function_count : function_count (t.more (t.Plain (t.ClassStatement (t.ClassOf 0 (Some (named_at 6 (codes "A"))) t.absent (t.more (t.MemberOf 10 false m.Method (t.KeyComputed (t.Function (t.FunctionOf 11 None f.Arrow [] (t.BodyExpression (t.Number (pos 1)))))) t.absent (t.present (t.FunctionOf 10 None f.Method [] (t.BodyStatements t.none)))) t.none)))) t.none) ≡ 4
+unfolding functions writes_constructor
+key_function_count = refl
+
+-- class A extends (class { }) { }
+parent_class_count : function_count (t.more (t.Plain (t.ClassStatement (t.ClassOf 0 (Some (named_at 6 (codes "A"))) (t.present (t.Paren (t.Class (t.ClassOf 17 None t.absent t.none)))) t.none))) t.none) ≡ 3
+unfolding functions writes_constructor
+parent_class_count = refl
+
+-- function f() { function g() { () => 1; } }
+nested_functions_count : function_count (t.more (t.Plain (t.FunctionStatement (t.FunctionOf 0 (Some (named_at 9 (codes "f"))) f.Plain [] (t.BodyStatements (t.more (t.FunctionStatement (t.FunctionOf 15 (Some (named_at 24 (codes "g"))) f.Plain [] (t.BodyStatements (t.more (t.Value (t.Function (t.FunctionOf 30 None f.Arrow [] (t.BodyExpression (t.Number (pos 1))))) semi.Written) t.none)))) t.none))))) t.none) ≡ 4
+unfolding functions writes_constructor
+nested_functions_count = refl

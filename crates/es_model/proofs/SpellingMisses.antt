@@ -1,15 +1,20 @@
 -- Trees, and tokens, that the grammar refuses.
-use Rattle.std.proofs.Common.{◌≡◌, ℕ, true, false, List, [], ◌∷◌, pos, None, sym, subst, arith}
+use Rattle.std.proofs.Common.{◌≡◌, ℕ, Bool, true, false, List, [], ◌∷◌, codes, pos, Some, None, inl, inr, sym, subst, arith}
 use Rattle.es_model.specs.declared.kinds.Semi.{Semi}
 use Rattle.es_model.specs.declared.kinds.Semi.TheVariants as semi
+use Rattle.es_model.specs.declared.kinds.FunctionKind.TheVariants as f
+use Rattle.es_model.specs.declared.kinds.MemberKind.TheVariants as m
 use Rattle.es_model.specs.declared.kinds.BinaryOperator.TheVariants as b
 use Rattle.es_model.specs.declared.kinds.UnaryOperator.TheVariants as u
 use Rattle.es_model.specs.declared.names.Identifier.{Identifier}
+use Rattle.es_model.specs.declared.names.Pair.{Pair}
+use Rattle.es_model.specs.declared.token.TokenKind.{TokenKind}
 use Rattle.es_model.specs.declared.token.TokenKind.TheVariants as k
 use Rattle.es_model.specs.Tree as t
 use Rattle.es_model.specs.Tree.{Tree}
+use Rattle.es_model.specs.Levels.{InObject, InClass}
 use Rattle.es_model.specs.Readings.{Tokens, First, word, the, same_line, semicolon, may_miss, may_miss_bare}
-use Rattle.es_model.specs.Spelling.{Spells, spells}
+use Rattle.es_model.specs.Spelling.{Spells, spells, import_list, module_name}
 use Rattle.es_model.proofs.ModuleLaws.{signs_pair_off}
 use Rattle.es_model.proofs.Rows.{token, lined}
 
@@ -91,7 +96,145 @@ missing_on_one_line name rest to h = let e : may_miss_bare (token (k.Name name) 
 arrow_after_line : (rest to : Tokens) → same_line (the "=>") (lined (k.Sign 51) 0 ∷ rest) to → ⊥
 arrow_after_line rest to h = cc (h.0)
 
+-- a comma form as an element of an array, and as a branch
+comma_as_element : (a c : Tree t.expression) (from to : Tokens) → Spells (t.Array (t.more (t.Comma a c) t.none)) from to → ⊥
+unfolding Spells
+comma_as_element a c from to h = cc (h.2.1.0)
+
+comma_as_branch : (a c d e : Tree t.expression) (from to : Tokens) → Spells (t.Conditional a (t.Comma c d) e) from to → ⊥
+unfolding Spells
+comma_as_branch a c d e from to h = omega (arith, h.2.2.1.0)
+
+-- `a ? b : c ? d : e` grouped to the left
+conditional_as_test : (a c d e g : Tree t.expression) (from to : Tokens) → Spells (t.Conditional (t.Conditional a c d) e g) from to → ⊥
+unfolding Spells
+conditional_as_test a c d e g from to h = omega (arith, h.1.0)
+
+-- `{static a}` as an object literal
+fixed_member_in_object : (at : ℕ) (name : List ℕ) (from to : Tokens) → Spells (t.Object (t.more (t.MemberOf at true m.Short (t.KeyWord name) t.absent t.absent) t.none)) from to → ⊥
+unfolding Spells
+fixed_member_in_object at name from to h = h.2.1.1.1
+
+-- `a: b` as a member of a class
+value_in_class : (at : ℕ) (derived : Bool) (key : Tree t.key) (a : Tree t.expression) (from to : Tokens) → Spells (t.MemberOf at false m.Value key (t.present a) t.absent) (InClass derived) from to → ⊥
+unfolding Spells
+value_in_class at derived key a from to h = h.1
+
+-- a template whose last piece is missing
+template_without_last : (text : List ℕ) (a : Tree t.expression) (from to : Tokens) → Spells (t.Template (text ∷ []) (t.more a t.none)) from to → ⊥
+unfolding Spells
+template_without_last text a from to h = h.2.2
+
+-- a getter with a parameter, and a setter without one
+getter_with_parameter : (at : ℕ) (key : Tree t.key) (a : Identifier) (body : Tree t.body) (from to : Tokens) → Spells (t.MemberOf at false m.Getter key t.absent (t.present (t.FunctionOf at None f.Getter (a ∷ []) body))) InObject from to → ⊥
+unfolding Spells
+getter_with_parameter at key a body from to h = h.1.1.1.2.2.2.1.2.1
+
+setter_without_parameter : (at : ℕ) (key : Tree t.key) (body : Tree t.body) (from to : Tokens) → Spells (t.MemberOf at false m.Setter key t.absent (t.present (t.FunctionOf at None f.Setter [] body))) InObject from to → ⊥
+unfolding Spells
+setter_without_parameter at key body from to h = h.1.1.1.2.2.2.1.2.1
+
+-- a class and a function without a name as statements
+nameless_class : (at : ℕ) (members : Tree (t.list t.member)) (from to : Tokens) → Spells (t.ClassStatement (t.ClassOf at None t.absent members)) from to → ⊥
+unfolding Spells
+nameless_class at members from to h = h.1.2.1
+
+nameless_function : (at : ℕ) (parameters : List Identifier) (body : Tree t.body) (from to : Tokens) → Spells (t.FunctionStatement (t.FunctionOf at None f.Plain parameters body)) from to → ⊥
+unfolding Spells
+nameless_function at parameters body from to h = h
+
+-- `++a()`
+call_updated : (at : ℕ) (a : Tree t.expression) (list : Tree (t.list t.expression)) (from to : Tokens) → Spells (t.Update at true true (t.Call a list)) from to → ⊥
+unfolding Spells
+call_updated at a list from to h = cc (h.1.2.0)
+
+-- an assignment with the operator `<`
+comparison_assigned : (at : ℕ) (target value : Tree t.expression) (from to : Tokens) → Spells (t.Assign at target (Some b.Less) value) from to → ⊥
+unfolding Spells
+comparison_assigned at target value from to h = h.1.2.1
+
+-- `for (const a;;) ;`
+const_in_head : (a : Identifier) (from to : Tokens) → Spells (t.For (t.HeadDeclare true (t.more (t.DeclaratorOf a t.absent) t.none)) t.absent t.absent t.Empty) from to → ⊥
+unfolding Spells
+const_in_head a from to h = cc (h.2.2.1.0)
+
+-- a line break after `throw`
+throw_before_line : (value : Tree t.expression) (mark : Semi) (kind : TokenKind) (rest to : Tokens) → Spells (t.Throw value mark) (token (k.Keyword 37) 0 ∷ lined kind 6 ∷ rest) to → ⊥
+unfolding Spells
+throw_before_line value mark kind rest to h = let e : true ≡ false = subst (First (λ one. one.line_before ≡ false)) (sym h.1.1) h.2.1.0 in cc e
+
+-- `default;` as a case, with no colon
+default_without_colon : (body : Tree (t.list t.statement)) (rest to : Tokens) → Spells (t.CaseOf t.absent body) (token (k.Keyword 8) 0 ∷ token (k.Sign 6) 7 ∷ rest) to → ⊥
+unfolding Spells word
+default_without_colon body rest to h = let e = subst (λ mid. the ":" mid h.2.0) (sym h.1.1) h.2.1 in cc (e.0)
+
+-- `export a;`
+value_exported : (a : Tree t.expression) (mark : Semi) (from to : Tokens) → Spells (t.ExportDeclaration (t.Value a mark)) from to → ⊥
+unfolding Spells
+value_exported a mark from to h = cc (h.2.0)
+
+-- a semicolon as a part of a default export of a function
+default_function_marked : (at : ℕ) (function : Tree t.function) (from to : Tokens) → Spells (t.ExportDefault at (t.DefaultFunction function) semi.Written) from to → ⊥
+unfolding Spells
+default_function_marked at function from to h = cc (h.2.1.2.0)
+
+-- `import;`
+no_names_before_semicolon : (list : List Pair) (rest to : Tokens) → import_list list (token (k.Sign 6) 6 ∷ rest) to → (token (k.Sign 6) 6 ∷ rest) ≡ to
+unfolding word
+no_names_before_semicolon list rest to (inl h) = h.1
+no_names_before_semicolon list rest to (inr (mid, inl h, from)) = absurd (cc (h.1.0))
+no_names_before_semicolon [] rest to (inr (mid, inr h, from)) = absurd h
+no_names_before_semicolon (one ∷ []) rest to (inr (mid, inr h, from)) = absurd (cc (h.1.1.0.0))
+no_names_before_semicolon (one ∷ (two ∷ list)) rest to (inr (mid, inr h, from)) = absurd (cc (h.1.1.0.0))
+
+import_without_module : (name : List ℕ) (list : List Pair) (mark : Semi) (rest to : Tokens) → Spells (t.Import name list mark) (token (k.Keyword 21) 0 ∷ token (k.Sign 6) 6 ∷ rest) to → ⊥
+unfolding Spells
+import_without_module name list mark rest to h =
+    let names = subst (λ from. import_list list from h.2.0) (sym h.1.1) h.2.1 in
+    let e = subst (λ from. module_name name from h.2.2.0) (sym (no_names_before_semicolon list rest h.2.0 names)) h.2.2.1 in
+    cc (e.0)
+
 -- `(1` is no module, whatever the tree: its one sign is an opening one
 pub open_parenthesis : (items : Tree (t.list t.item)) → spells items (token (k.Sign 2) 0 ∷ token (k.Number (pos 1)) 1 ∷ token k.End 2 ∷ []) → ⊥
 unfolding word
 open_parenthesis items h = let e = signs_pair_off items (token (k.Sign 2) 0 ∷ token (k.Number (pos 1)) 1 ∷ token k.End 2 ∷ []) h in cc e
+
+-- `[1`
+open_bracket : (items : Tree (t.list t.item)) → spells items (token (k.Sign 4) 0 ∷ token (k.Number (pos 1)) 1 ∷ token k.End 2 ∷ []) → ⊥
+unfolding word
+open_bracket items h = let e = signs_pair_off items _ h in cc e
+
+-- `{a`
+open_brace : (items : Tree (t.list t.item)) → spells items (token (k.Sign 0) 0 ∷ token (k.Name (codes "a")) 1 ∷ token k.End 2 ∷ []) → ⊥
+unfolding word
+open_brace items h = let e = signs_pair_off items _ h in cc e
+
+-- `if (a`
+open_test : (items : Tree (t.list t.item)) → spells items (token (k.Keyword 19) 0 ∷ token (k.Sign 2) 3 ∷ token (k.Name (codes "a")) 4 ∷ token k.End 5 ∷ []) → ⊥
+unfolding word
+open_test items h = let e = signs_pair_off items _ h in cc e
+
+-- `for (;;`
+open_head : (items : Tree (t.list t.item)) → spells items (token (k.Keyword 17) 0 ∷ token (k.Sign 2) 4 ∷ token (k.Sign 6) 5 ∷ token (k.Sign 6) 6 ∷ token k.End 7 ∷ []) → ⊥
+unfolding word
+open_head items h = let e = signs_pair_off items _ h in cc e
+
+-- `switch (a) { case 1:`
+open_cases : (items : Tree (t.list t.item)) → spells items (token (k.Keyword 35) 0 ∷ token (k.Sign 2) 7 ∷ token (k.Name (codes "a")) 8 ∷ token (k.Sign 3) 9 ∷ token (k.Sign 0) 11 ∷ token (k.Keyword 2) 13 ∷ token (k.Number (pos 1)) 18 ∷ token (k.Sign 37) 19 ∷ token k.End 20 ∷ []) → ⊥
+unfolding word
+open_cases items h = let e = signs_pair_off items _ h in cc e
+
+-- `import {a from "m"`
+open_import : (items : Tree (t.list t.item)) → spells items (token (k.Keyword 21) 0 ∷ token (k.Sign 0) 7 ∷ token (k.Name (codes "a")) 8 ∷ token (k.Name (codes "from")) 10 ∷ token (k.String (codes "m")) 15 ∷ token k.End 18 ∷ []) → ⊥
+unfolding word
+open_import items h = let e = signs_pair_off items _ h in cc e
+
+-- `export {a`
+open_export : (items : Tree (t.list t.item)) → spells items (token (k.Keyword 13) 0 ∷ token (k.Sign 0) 7 ∷ token (k.Name (codes "a")) 8 ∷ token k.End 9 ∷ []) → ⊥
+unfolding word
+open_export items h = let e = signs_pair_off items _ h in cc e
+
+-- `a)`
+closing_parenthesis : (items : Tree (t.list t.item)) → spells items (token (k.Name (codes "a")) 0 ∷ token (k.Sign 3) 1 ∷ token k.End 2 ∷ []) → ⊥
+unfolding word
+closing_parenthesis items h = let e = signs_pair_off items _ h in cc e

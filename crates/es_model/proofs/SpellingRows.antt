@@ -31,6 +31,11 @@ comparisons : spells (t.more (t.Plain (t.Value (t.Binary b.StrictNotEqual (t.Bin
 unfolding Spells word
 comparisons = (_, refl, (_, (_, (refl, (_, ((lit≤ tt), (_, ((lit≤ tt), (_, ((lit≤ tt), ((refl, refl), refl)), (_, (refl, refl), ((lit≤ tt), ((refl, refl), refl))))), (_, (refl, refl), ((lit≤ tt), (_, ((lit≤ tt), ((refl, refl), refl)), (_, (refl, refl), ((lit≤ tt), ((refl, refl), refl)))))))), (_, (refl, refl), ((lit≤ tt), (_, ((lit≤ tt), (_, ((lit≤ tt), ((refl, refl), refl)), (_, (refl, refl), ((lit≤ tt), ((refl, refl), refl))))), (_, (refl, refl), ((lit≤ tt), ((refl, refl), refl)))))))), (refl, refl)), refl))
 
+-- a / b > c != d <= e === f;
+more_comparisons : spells (t.more (t.Plain (t.Value (t.Binary b.StrictEqual (t.Binary b.NotEqual (t.Binary b.Greater (t.Binary b.Divide (t.Name (named_at 0 (codes "a"))) (t.Name (named_at 4 (codes "b")))) (t.Name (named_at 8 (codes "c")))) (t.Binary b.LessOrEqual (t.Name (named_at 13 (codes "d"))) (t.Name (named_at 18 (codes "e"))))) (t.Name (named_at 24 (codes "f")))) semi.Written)) t.none) (token (k.Name (codes "a")) 0 ∷ token (k.Sign 20) 2 ∷ token (k.Name (codes "b")) 4 ∷ token (k.Sign 10) 6 ∷ token (k.Name (codes "c")) 8 ∷ token (k.Sign 14) 10 ∷ token (k.Name (codes "d")) 13 ∷ token (k.Sign 11) 15 ∷ token (k.Name (codes "e")) 18 ∷ token (k.Sign 15) 20 ∷ token (k.Name (codes "f")) 24 ∷ token (k.Sign 6) 25 ∷ token k.End 26 ∷ [])
+unfolding Spells word
+more_comparisons = (_, refl, (_, (_, (refl, (_, ((lit≤ tt), (_, ((lit≤ tt), (_, ((lit≤ tt), (_, ((lit≤ tt), ((refl, refl), refl)), (_, (refl, refl), ((lit≤ tt), ((refl, refl), refl))))), (_, (refl, refl), ((lit≤ tt), ((refl, refl), refl))))), (_, (refl, refl), ((lit≤ tt), (_, ((lit≤ tt), ((refl, refl), refl)), (_, (refl, refl), ((lit≤ tt), ((refl, refl), refl)))))))), (_, (refl, refl), ((lit≤ tt), ((refl, refl), refl))))), (refl, refl)), refl))
+
 -- a && b || c ? d : e ? f : g;
 chosen : spells (t.more (t.Plain (t.Value (t.Conditional (t.Or (t.And (t.Name (named_at 0 (codes "a"))) (t.Name (named_at 5 (codes "b")))) (t.Name (named_at 10 (codes "c")))) (t.Name (named_at 14 (codes "d"))) (t.Conditional (t.Name (named_at 18 (codes "e"))) (t.Name (named_at 22 (codes "f"))) (t.Name (named_at 26 (codes "g"))))) semi.Written)) t.none) (token (k.Name (codes "a")) 0 ∷ token (k.Sign 33) 2 ∷ token (k.Name (codes "b")) 5 ∷ token (k.Sign 34) 7 ∷ token (k.Name (codes "c")) 10 ∷ token (k.Sign 36) 12 ∷ token (k.Name (codes "d")) 14 ∷ token (k.Sign 37) 16 ∷ token (k.Name (codes "e")) 18 ∷ token (k.Sign 36) 20 ∷ token (k.Name (codes "f")) 22 ∷ token (k.Sign 37) 24 ∷ token (k.Name (codes "g")) 26 ∷ token (k.Sign 6) 27 ∷ token k.End 28 ∷ [])
 unfolding Spells word
@@ -65,6 +70,16 @@ update_after_line = (_, refl, (_, (_, (refl, ((refl, refl), refl)), (refl, refl)
 assigned : spells (t.more (t.Plain (t.Value (t.Assign 0 (t.Name (named_at 0 (codes "a"))) None (t.Assign 4 (t.Name (named_at 4 (codes "b"))) (Some b.Add) (t.Assign 9 (t.Index (t.Name (named_at 9 (codes "c"))) (t.Name (named_at 11 (codes "d")))) (Some b.Power) (t.Number (pos 2))))) semi.Written)) t.none) (token (k.Name (codes "a")) 0 ∷ token (k.Sign 38) 2 ∷ token (k.Name (codes "b")) 4 ∷ token (k.Sign 39) 6 ∷ token (k.Name (codes "c")) 9 ∷ token (k.Sign 4) 10 ∷ token (k.Name (codes "d")) 11 ∷ token (k.Sign 5) 12 ∷ token (k.Sign 44) 14 ∷ token (k.Number (pos 2)) 18 ∷ token (k.Sign 6) 19 ∷ token k.End 20 ∷ [])
 unfolding Spells word
 assigned = (_, refl, (_, (_, (refl, (refl, (_, (refl, ((refl, refl), refl)), (_, (refl, refl), ((lit≤ tt), (refl, (_, (refl, ((refl, refl), refl)), (_, (refl, refl), ((lit≤ tt), (refl, (_, (refl, (_, (((lit≤ tt), refl), ((refl, refl), refl)), (_, (refl, refl), (_, ((refl, refl), refl), (refl, refl))))), (_, (refl, refl), ((lit≤ tt), (refl, refl)))))))))))))), (refl, refl)), refl))
+
+-- a -= b *= c /= d %= e;
+assigned_sums : spells (t.more (t.Plain (t.Value (t.Assign 0 (t.Name (named_at 0 (codes "a"))) (Some b.Subtract) (t.Assign 5 (t.Name (named_at 5 (codes "b"))) (Some b.Multiply) (t.Assign 10 (t.Name (named_at 10 (codes "c"))) (Some b.Divide) (t.Assign 15 (t.Name (named_at 15 (codes "d"))) (Some b.Remainder) (t.Name (named_at 20 (codes "e"))))))) semi.Written)) t.none) (token (k.Name (codes "a")) 0 ∷ token (k.Sign 40) 2 ∷ token (k.Name (codes "b")) 5 ∷ token (k.Sign 41) 7 ∷ token (k.Name (codes "c")) 10 ∷ token (k.Sign 42) 12 ∷ token (k.Name (codes "d")) 15 ∷ token (k.Sign 43) 17 ∷ token (k.Name (codes "e")) 20 ∷ token (k.Sign 6) 21 ∷ token k.End 22 ∷ [])
+unfolding Spells word
+assigned_sums = (_, refl, (_, (_, (refl, (refl, (_, (refl, ((refl, refl), refl)), (_, (refl, refl), ((lit≤ tt), (refl, (_, (refl, ((refl, refl), refl)), (_, (refl, refl), ((lit≤ tt), (refl, (_, (refl, ((refl, refl), refl)), (_, (refl, refl), ((lit≤ tt), (refl, (_, (refl, ((refl, refl), refl)), (_, (refl, refl), ((lit≤ tt), ((refl, refl), refl)))))))))))))))))), (refl, refl)), refl))
+
+-- a <<= b >>= c >>>= d &= e |= f ^= g;
+assigned_bits : spells (t.more (t.Plain (t.Value (t.Assign 0 (t.Name (named_at 0 (codes "a"))) (Some b.ShiftLeft) (t.Assign 6 (t.Name (named_at 6 (codes "b"))) (Some b.ShiftRight) (t.Assign 12 (t.Name (named_at 12 (codes "c"))) (Some b.ShiftRightUnsigned) (t.Assign 19 (t.Name (named_at 19 (codes "d"))) (Some b.BitAnd) (t.Assign 24 (t.Name (named_at 24 (codes "e"))) (Some b.BitOr) (t.Assign 29 (t.Name (named_at 29 (codes "f"))) (Some b.BitXor) (t.Name (named_at 34 (codes "g"))))))))) semi.Written)) t.none) (token (k.Name (codes "a")) 0 ∷ token (k.Sign 45) 2 ∷ token (k.Name (codes "b")) 6 ∷ token (k.Sign 46) 8 ∷ token (k.Name (codes "c")) 12 ∷ token (k.Sign 47) 14 ∷ token (k.Name (codes "d")) 19 ∷ token (k.Sign 48) 21 ∷ token (k.Name (codes "e")) 24 ∷ token (k.Sign 49) 26 ∷ token (k.Name (codes "f")) 29 ∷ token (k.Sign 50) 31 ∷ token (k.Name (codes "g")) 34 ∷ token (k.Sign 6) 35 ∷ token k.End 36 ∷ [])
+unfolding Spells word
+assigned_bits = (_, refl, (_, (_, (refl, (refl, (_, (refl, ((refl, refl), refl)), (_, (refl, refl), ((lit≤ tt), (refl, (_, (refl, ((refl, refl), refl)), (_, (refl, refl), ((lit≤ tt), (refl, (_, (refl, ((refl, refl), refl)), (_, (refl, refl), ((lit≤ tt), (refl, (_, (refl, ((refl, refl), refl)), (_, (refl, refl), ((lit≤ tt), (refl, (_, (refl, ((refl, refl), refl)), (_, (refl, refl), ((lit≤ tt), (refl, (_, (refl, ((refl, refl), refl)), (_, (refl, refl), ((lit≤ tt), ((refl, refl), refl)))))))))))))))))))))))))), (refl, refl)), refl))
 
 -- a, b, (c, d);
 comma : spells (t.more (t.Plain (t.Value (t.Comma (t.Comma (t.Name (named_at 0 (codes "a"))) (t.Name (named_at 3 (codes "b")))) (t.Paren (t.Comma (t.Name (named_at 7 (codes "c"))) (t.Name (named_at 10 (codes "d")))))) semi.Written)) t.none) (token (k.Name (codes "a")) 0 ∷ token (k.Sign 7) 1 ∷ token (k.Name (codes "b")) 3 ∷ token (k.Sign 7) 4 ∷ token (k.Sign 2) 6 ∷ token (k.Name (codes "c")) 7 ∷ token (k.Sign 7) 8 ∷ token (k.Name (codes "d")) 10 ∷ token (k.Sign 3) 11 ∷ token (k.Sign 6) 12 ∷ token k.End 13 ∷ [])
