@@ -272,6 +272,10 @@ tagged_template = refl
 tagged_member : answer (token (k.Name (codes "a")) 0 ∷ token (k.Sign 8) 1 ∷ token (k.Name (codes "b")) 2 ∷ token (k.Template true true (codes "c")) 4 ∷ token (k.Sign 6) 7 ∷ token k.End 8 ∷ []) ≡ Syntax 3
 tagged_member = refl
 
+-- a⏎‸`b`
+template_behind_a_line_break : answer (token (k.Name (codes "a")) 0 ∷ lined (k.Template true true (codes "b")) 2 ∷ token k.End 5 ∷ []) ≡ Syntax 1
+template_behind_a_line_break = refl
+
 -- `a${b‸;
 template_cut_off : answer (token (k.Template true false (codes "a")) 0 ∷ token (k.Name (codes "b")) 4 ∷ token (k.Sign 6) 5 ∷ token k.End 6 ∷ []) ≡ Syntax 2
 template_cut_off = refl

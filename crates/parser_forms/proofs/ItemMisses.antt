@@ -108,6 +108,10 @@ export_default_of_nothing = refl
 export_default_of_a_comma : answer (token (k.Keyword 13) 0 ∷ token (k.Keyword 8) 7 ∷ token (k.Name (codes "a")) 15 ∷ token (k.Sign 7) 16 ∷ token (k.Name (codes "b")) 18 ∷ token (k.Sign 6) 19 ∷ token k.End 20 ∷ []) ≡ Syntax 3
 export_default_of_a_comma = refl
 
+-- export default a ‸b
+export_default_of_two_names : answer (token (k.Keyword 13) 0 ∷ token (k.Keyword 8) 7 ∷ token (k.Name (codes "a")) 15 ∷ token (k.Name (codes "b")) 17 ∷ token k.End 18 ∷ []) ≡ Syntax 3
+export_default_of_two_names = refl
+
 -- export default ‸let a;
 export_default_of_a_declaration : answer (token (k.Keyword 13) 0 ∷ token (k.Keyword 8) 7 ∷ token (k.Keyword 25) 15 ∷ token (k.Name (codes "a")) 19 ∷ token (k.Sign 6) 20 ∷ token k.End 21 ∷ []) ≡ Syntax 2
 export_default_of_a_declaration = refl
@@ -135,6 +139,10 @@ export_list_and_from = refl
 -- export {a} ‸b;
 export_list_and_a_name : answer (token (k.Keyword 13) 0 ∷ token (k.Sign 0) 7 ∷ token (k.Name (codes "a")) 8 ∷ token (k.Sign 1) 9 ∷ token (k.Name (codes "b")) 11 ∷ token (k.Sign 6) 12 ∷ token k.End 13 ∷ []) ≡ Syntax 4
 export_list_and_a_name = refl
+
+-- export {a} from "m" ‸b
+export_from_and_a_name : answer (token (k.Keyword 13) 0 ∷ token (k.Sign 0) 7 ∷ token (k.Name (codes "a")) 8 ∷ token (k.Sign 1) 9 ∷ token (k.Name (codes "from")) 11 ∷ token (k.String (codes "m")) 16 ∷ token (k.Name (codes "b")) 20 ∷ token k.End 21 ∷ []) ≡ Syntax 6
+export_from_and_a_name = refl
 
 -- export {a}⏎‸(b);
 export_list_and_a_paren : answer (token (k.Keyword 13) 0 ∷ token (k.Sign 0) 7 ∷ token (k.Name (codes "a")) 8 ∷ token (k.Sign 1) 9 ∷ lined (k.Sign 2) 11 ∷ token (k.Name (codes "b")) 12 ∷ token (k.Sign 3) 13 ∷ token (k.Sign 6) 14 ∷ token k.End 15 ∷ []) ≡ Syntax 4
