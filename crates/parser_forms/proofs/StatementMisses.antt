@@ -24,6 +24,22 @@ for_in_of_an_expression = refl
 for_of : answer (token (k.Keyword 17) 0 ∷ token (k.Sign 2) 4 ∷ token (k.Keyword 5) 5 ∷ token (k.Name (codes "a")) 11 ∷ token (k.Name (codes "of")) 13 ∷ token (k.Name (codes "b")) 16 ∷ token (k.Sign 3) 17 ∷ token (k.Sign 6) 19 ∷ token k.End 20 ∷ []) ≡ Syntax 4
 for_of = refl
 
+-- for (a ‸of b) ;
+for_of_a_name : answer (token (k.Keyword 17) 0 ∷ token (k.Sign 2) 4 ∷ token (k.Name (codes "a")) 5 ∷ token (k.Name (codes "of")) 7 ∷ token (k.Name (codes "b")) 10 ∷ token (k.Sign 3) 11 ∷ token (k.Sign 6) 13 ∷ token k.End 14 ∷ []) ≡ Syntax 3
+for_of_a_name = refl
+
+-- for ([a] ‸of b) ;
+for_of_an_array : answer (token (k.Keyword 17) 0 ∷ token (k.Sign 2) 4 ∷ token (k.Sign 4) 5 ∷ token (k.Name (codes "a")) 6 ∷ token (k.Sign 5) 7 ∷ token (k.Name (codes "of")) 9 ∷ token (k.Name (codes "b")) 12 ∷ token (k.Sign 3) 13 ∷ token (k.Sign 6) 15 ∷ token k.End 16 ∷ []) ≡ Syntax 5
+for_of_an_array = refl
+
+-- for (let ‸[a] of b) ;
+for_of_a_destructured_array : answer (token (k.Keyword 17) 0 ∷ token (k.Sign 2) 4 ∷ token (k.Keyword 25) 5 ∷ token (k.Sign 4) 9 ∷ token (k.Name (codes "a")) 10 ∷ token (k.Sign 5) 11 ∷ token (k.Name (codes "of")) 13 ∷ token (k.Name (codes "b")) 16 ∷ token (k.Sign 3) 17 ∷ token (k.Sign 6) 19 ∷ token k.End 20 ∷ []) ≡ Syntax 3
+for_of_a_destructured_array = refl
+
+-- for ‸await (a of b) ;
+for_await : answer (token (k.Keyword 17) 0 ∷ token (k.Keyword 0) 4 ∷ token (k.Sign 2) 10 ∷ token (k.Name (codes "a")) 11 ∷ token (k.Name (codes "of")) 13 ∷ token (k.Name (codes "b")) 16 ∷ token (k.Sign 3) 17 ∷ token (k.Sign 6) 19 ∷ token k.End 20 ∷ []) ≡ Syntax 1
+for_await = refl
+
 -- let ‸{a} = b;
 destructured_object : answer (token (k.Keyword 25) 0 ∷ token (k.Sign 0) 4 ∷ token (k.Name (codes "a")) 5 ∷ token (k.Sign 1) 6 ∷ token (k.Sign 38) 8 ∷ token (k.Name (codes "b")) 10 ∷ token (k.Sign 6) 11 ∷ token k.End 12 ∷ []) ≡ Syntax 1
 destructured_object = refl
