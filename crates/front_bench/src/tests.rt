@@ -146,6 +146,19 @@ fn expressions_missed(rt: HostRuntime) -> Result<(), Fail> {
         ("in a;", 0),
         ("\"a\" = 1;", 1),
         ("`a` = 1;", 1),
+        ("f(...a);", 2),
+        ("[...a];", 1),
+        ("[a,, b];", 3),
+        ("[a] = b;", 3),
+        ("({a} = b);", 4),
+        ("a?.b;", 2),
+        ("a &&= b;", 2),
+        ("a`b`;", 1),
+        ("a = /b/;", 2),
+        ("a = import(b);", 2),
+        ("import.meta;", 1),
+        ("yield a;", 0),
+        ("async a => b;", 1),
     ];
     assert_eq!(rt; missed(rt.alloc(), &rows)?, None);
     Ok(())
@@ -176,6 +189,12 @@ fn members_missed(rt: HostRuntime) -> Result<(), Fail> {
         ("class A { static a; }", 5),
         ("class A {", 3),
         ("class A { get set a() {} }", 5),
+        ("function* f() {}", 1),
+        ("({* a() {}});", 2),
+        ("function f(...a) {}", 3),
+        ("function f(a = 1) {}", 4),
+        ("class A { a = 1; }", 4),
+        ("class A { static {} }", 4),
     ];
     assert_eq!(rt; missed(rt.alloc(), &rows)?, None);
     Ok(())
@@ -210,6 +229,14 @@ fn statements_missed(rt: HostRuntime) -> Result<(), Fail> {
         ("{", 1),
         ("{ import \"m\"; }", 1),
         ("if (a) import \"m\";", 4),
+        ("a: b;", 1),
+        ("for (let a in b) ;", 4),
+        ("for (const a of b) ;", 4),
+        ("for await (a of b) ;", 1),
+        ("async function f() {}", 1),
+        ("let {a} = b;", 1),
+        ("debugger;", 0),
+        ("with (a) b;", 0),
     ];
     assert_eq!(rt; missed(rt.alloc(), &rows)?, None);
     Ok(())
@@ -238,6 +265,10 @@ fn items_missed(rt: HostRuntime) -> Result<(), Fail> {
         ("export default async function f() {}", 3),
         ("export class {}", 2),
         ("export export {};", 1),
+        ("import * as a from \"m\";", 1),
+        ("export * from \"m\";", 1),
+        ("import \"m\" with {};", 2),
+        ("import(a);", 1),
     ];
     assert_eq!(rt; missed(rt.alloc(), &rows)?, None);
     Ok(())

@@ -122,6 +122,8 @@ fn gaps_and_words(rt: HostRuntime) -> Result<(), Fail> {
         ),
         ("yield await", "K45@0 K0@6 E@11"),
         ("#", "BadCharacter(0)"),
+        ("#!x", "BadCharacter(0)"),
+        ("a.#b", "BadCharacter(2)"),
         ("a @", "BadCharacter(2)"),
         ("\\u0061", "BadCharacter(0)"),
         ("\u{1F600}", "BadCharacter(0)"),
@@ -273,6 +275,8 @@ fn templates(rt: HostRuntime) -> Result<(), Fail> {
         ("`${#", "BadCharacter(3)"),
         ("`\\x", "BadEscape(1)"),
         ("`${`\\1", "BadEscape(4)"),
+        ("`${a}\\x", "BadEscape(5)"),
+        ("`${'\\x", "BadEscape(4)"),
         ("`${'a", "OpenString(3)"),
         ("`${/*", "OpenComment(3)"),
         ("`${9007199254740992", "NumberTooLarge(3)"),
@@ -293,6 +297,9 @@ fn bytes_of_no_sequence(rt: HostRuntime) -> Result<(), Fail> {
         (b"\xC0\xAF", "NotUtf8(0)"),
         (b"'\xE9'", "NotUtf8(1)"),
         (b"\xC3\xA9\xC3", "NotUtf8(2)"),
+        (b"`\xC3`", "NotUtf8(1)"),
+        (b"`${\xC3}`", "NotUtf8(3)"),
+        (b"`${a}\xFF`", "NotUtf8(5)"),
     ];
     for (text, want) in rows {
         assert_eq!(rt; shown(rt.alloc(), text)?.as_str(), want);

@@ -216,6 +216,10 @@ hole_at_the_beginning = refl
 hole_in_the_middle : answer (token (k.Sign 4) 0 ∷ token (k.Name (codes "a")) 1 ∷ token (k.Sign 7) 2 ∷ token (k.Sign 7) 3 ∷ token (k.Name (codes "b")) 5 ∷ token (k.Sign 5) 6 ∷ token (k.Sign 6) 7 ∷ token k.End 8 ∷ []) ≡ Syntax 3
 hole_in_the_middle = refl
 
+-- [a,‸,];
+hole_at_the_end : answer (token (k.Sign 4) 0 ∷ token (k.Name (codes "a")) 1 ∷ token (k.Sign 7) 2 ∷ token (k.Sign 7) 3 ∷ token (k.Sign 5) 4 ∷ token (k.Sign 6) 5 ∷ token k.End 6 ∷ []) ≡ Syntax 3
+hole_at_the_end = refl
+
 -- [a‸;
 array_cut_off : answer (token (k.Sign 4) 0 ∷ token (k.Name (codes "a")) 1 ∷ token (k.Sign 6) 2 ∷ token k.End 3 ∷ []) ≡ Syntax 2
 array_cut_off = refl
@@ -244,9 +248,33 @@ spread_in_an_array = refl
 spread_in_an_object : answer (token (k.Sign 2) 0 ∷ token (k.Sign 0) 1 ∷ token (k.Sign 8) 2 ∷ token (k.Sign 8) 3 ∷ token (k.Sign 8) 4 ∷ token (k.Name (codes "a")) 5 ∷ token (k.Sign 1) 6 ∷ token (k.Sign 3) 7 ∷ token (k.Sign 6) 8 ∷ token k.End 9 ∷ []) ≡ Syntax 2
 spread_in_an_object = refl
 
+-- [a] ‸= b;
+array_destructured : answer (token (k.Sign 4) 0 ∷ token (k.Name (codes "a")) 1 ∷ token (k.Sign 5) 2 ∷ token (k.Sign 38) 4 ∷ token (k.Name (codes "b")) 6 ∷ token (k.Sign 6) 7 ∷ token k.End 8 ∷ []) ≡ Syntax 3
+array_destructured = refl
+
+-- [a.b, c[d]] ‸= e;
+array_of_members_destructured : answer (token (k.Sign 4) 0 ∷ token (k.Name (codes "a")) 1 ∷ token (k.Sign 8) 2 ∷ token (k.Name (codes "b")) 3 ∷ token (k.Sign 7) 4 ∷ token (k.Name (codes "c")) 6 ∷ token (k.Sign 4) 7 ∷ token (k.Name (codes "d")) 8 ∷ token (k.Sign 5) 9 ∷ token (k.Sign 5) 10 ∷ token (k.Sign 38) 12 ∷ token (k.Name (codes "e")) 14 ∷ token (k.Sign 6) 15 ∷ token k.End 16 ∷ []) ≡ Syntax 10
+array_of_members_destructured = refl
+
+-- ({a}) ‸= b;
+object_in_parentheses_destructured : answer (token (k.Sign 2) 0 ∷ token (k.Sign 0) 1 ∷ token (k.Name (codes "a")) 2 ∷ token (k.Sign 1) 3 ∷ token (k.Sign 3) 4 ∷ token (k.Sign 38) 6 ∷ token (k.Name (codes "b")) 8 ∷ token (k.Sign 6) 9 ∷ token k.End 10 ∷ []) ≡ Syntax 5
+object_in_parentheses_destructured = refl
+
+-- ({a} ‸= b);
+object_destructured : answer (token (k.Sign 2) 0 ∷ token (k.Sign 0) 1 ∷ token (k.Name (codes "a")) 2 ∷ token (k.Sign 1) 3 ∷ token (k.Sign 38) 5 ∷ token (k.Name (codes "b")) 7 ∷ token (k.Sign 3) 8 ∷ token (k.Sign 6) 9 ∷ token k.End 10 ∷ []) ≡ Syntax 4
+object_destructured = refl
+
+-- ({a: b} ‸= c);
+object_with_values_destructured : answer (token (k.Sign 2) 0 ∷ token (k.Sign 0) 1 ∷ token (k.Name (codes "a")) 2 ∷ token (k.Sign 37) 3 ∷ token (k.Name (codes "b")) 5 ∷ token (k.Sign 1) 6 ∷ token (k.Sign 38) 8 ∷ token (k.Name (codes "c")) 10 ∷ token (k.Sign 3) 11 ∷ token (k.Sign 6) 12 ∷ token k.End 13 ∷ []) ≡ Syntax 6
+object_with_values_destructured = refl
+
 -- a ? ‸.b;
 optional_chaining : answer (token (k.Name (codes "a")) 0 ∷ token (k.Sign 36) 2 ∷ token (k.Sign 8) 4 ∷ token (k.Name (codes "b")) 5 ∷ token (k.Sign 6) 6 ∷ token k.End 7 ∷ []) ≡ Syntax 2
 optional_chaining = refl
+
+-- a ? ‸.[b];
+optional_index : answer (token (k.Name (codes "a")) 0 ∷ token (k.Sign 36) 2 ∷ token (k.Sign 8) 4 ∷ token (k.Sign 4) 5 ∷ token (k.Name (codes "b")) 6 ∷ token (k.Sign 5) 7 ∷ token (k.Sign 6) 8 ∷ token k.End 9 ∷ []) ≡ Syntax 2
+optional_index = refl
 
 -- a ? (b)‸;
 optional_call_without_a_colon : answer (token (k.Name (codes "a")) 0 ∷ token (k.Sign 36) 2 ∷ token (k.Sign 2) 4 ∷ token (k.Name (codes "b")) 5 ∷ token (k.Sign 3) 6 ∷ token (k.Sign 6) 7 ∷ token k.End 8 ∷ []) ≡ Syntax 5
@@ -271,6 +299,10 @@ tagged_template = refl
 -- a.b ‸`c`;
 tagged_member : answer (token (k.Name (codes "a")) 0 ∷ token (k.Sign 8) 1 ∷ token (k.Name (codes "b")) 2 ∷ token (k.Template true true (codes "c")) 4 ∷ token (k.Sign 6) 7 ∷ token k.End 8 ∷ []) ≡ Syntax 3
 tagged_member = refl
+
+-- a⏎‸`b`
+template_behind_a_line_break : answer (token (k.Name (codes "a")) 0 ∷ lined (k.Template true true (codes "b")) 2 ∷ token k.End 5 ∷ []) ≡ Syntax 1
+template_behind_a_line_break = refl
 
 -- `a${b‸;
 template_cut_off : answer (token (k.Template true false (codes "a")) 0 ∷ token (k.Name (codes "b")) 4 ∷ token (k.Sign 6) 5 ∷ token k.End 6 ∷ []) ≡ Syntax 2
@@ -303,6 +335,14 @@ async_function = refl
 -- async ‸a => b;
 async_arrow : answer (token (k.Name (codes "async")) 0 ∷ token (k.Name (codes "a")) 6 ∷ token (k.Sign 51) 8 ∷ token (k.Name (codes "b")) 11 ∷ token (k.Sign 6) 12 ∷ token k.End 13 ∷ []) ≡ Syntax 1
 async_arrow = refl
+
+-- async () ‸=> a;
+async_arrow_of_nothing : answer (token (k.Name (codes "async")) 0 ∷ token (k.Sign 2) 6 ∷ token (k.Sign 3) 7 ∷ token (k.Sign 51) 9 ∷ token (k.Name (codes "a")) 12 ∷ token (k.Sign 6) 13 ∷ token k.End 14 ∷ []) ≡ Syntax 3
+async_arrow_of_nothing = refl
+
+-- async (a) ‸=> b;
+async_arrow_in_parentheses : answer (token (k.Name (codes "async")) 0 ∷ token (k.Sign 2) 6 ∷ token (k.Name (codes "a")) 7 ∷ token (k.Sign 3) 8 ∷ token (k.Sign 51) 10 ∷ token (k.Name (codes "b")) 13 ∷ token (k.Sign 6) 14 ∷ token k.End 15 ∷ []) ≡ Syntax 4
+async_arrow_in_parentheses = refl
 
 -- new‸.target;
 new_target : answer (token (k.Keyword 26) 0 ∷ token (k.Sign 8) 3 ∷ token (k.Name (codes "target")) 4 ∷ token (k.Sign 6) 10 ∷ token k.End 11 ∷ []) ≡ Syntax 1

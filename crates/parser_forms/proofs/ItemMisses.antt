@@ -92,6 +92,18 @@ export_of_everything = refl
 export_as_a_string : answer (token (k.Keyword 13) 0 ∷ token (k.Sign 0) 7 ∷ token (k.Name (codes "a")) 8 ∷ token (k.Name (codes "as")) 10 ∷ token (k.String (codes "b")) 13 ∷ token (k.Sign 1) 16 ∷ token (k.Sign 6) 17 ∷ token k.End 18 ∷ []) ≡ Syntax 4
 export_as_a_string = refl
 
+-- export {‸"a" as b} from "m";
+export_of_a_string : answer (token (k.Keyword 13) 0 ∷ token (k.Sign 0) 7 ∷ token (k.String (codes "a")) 8 ∷ token (k.Name (codes "as")) 12 ∷ token (k.Name (codes "b")) 15 ∷ token (k.Sign 1) 16 ∷ token (k.Name (codes "from")) 18 ∷ token (k.String (codes "m")) 23 ∷ token (k.Sign 6) 26 ∷ token k.End 27 ∷ []) ≡ Syntax 2
+export_of_a_string = refl
+
+-- export {a} from "m" ‸with {};
+export_with_attributes : answer (token (k.Keyword 13) 0 ∷ token (k.Sign 0) 7 ∷ token (k.Name (codes "a")) 8 ∷ token (k.Sign 1) 9 ∷ token (k.Name (codes "from")) 11 ∷ token (k.String (codes "m")) 16 ∷ token (k.Keyword 44) 20 ∷ token (k.Sign 0) 25 ∷ token (k.Sign 1) 26 ∷ token (k.Sign 6) 27 ∷ token k.End 28 ∷ []) ≡ Syntax 6
+export_with_attributes = refl
+
+-- export ‸* as a from "m";
+export_of_everything_as_a_name : answer (token (k.Keyword 13) 0 ∷ token (k.Sign 19) 7 ∷ token (k.Name (codes "as")) 9 ∷ token (k.Name (codes "a")) 12 ∷ token (k.Name (codes "from")) 14 ∷ token (k.String (codes "m")) 19 ∷ token (k.Sign 6) 22 ∷ token k.End 23 ∷ []) ≡ Syntax 1
+export_of_everything_as_a_name = refl
+
 -- export {default}‸;
 export_of_default_without_from : answer (token (k.Keyword 13) 0 ∷ token (k.Sign 0) 7 ∷ token (k.Keyword 8) 8 ∷ token (k.Sign 1) 15 ∷ token (k.Sign 6) 16 ∷ token k.End 17 ∷ []) ≡ Syntax 4
 export_of_default_without_from = refl
@@ -107,6 +119,10 @@ export_default_of_nothing = refl
 -- export default a‸, b;
 export_default_of_a_comma : answer (token (k.Keyword 13) 0 ∷ token (k.Keyword 8) 7 ∷ token (k.Name (codes "a")) 15 ∷ token (k.Sign 7) 16 ∷ token (k.Name (codes "b")) 18 ∷ token (k.Sign 6) 19 ∷ token k.End 20 ∷ []) ≡ Syntax 3
 export_default_of_a_comma = refl
+
+-- export default a ‸b
+export_default_of_two_names : answer (token (k.Keyword 13) 0 ∷ token (k.Keyword 8) 7 ∷ token (k.Name (codes "a")) 15 ∷ token (k.Name (codes "b")) 17 ∷ token k.End 18 ∷ []) ≡ Syntax 3
+export_default_of_two_names = refl
 
 -- export default ‸let a;
 export_default_of_a_declaration : answer (token (k.Keyword 13) 0 ∷ token (k.Keyword 8) 7 ∷ token (k.Keyword 25) 15 ∷ token (k.Name (codes "a")) 19 ∷ token (k.Sign 6) 20 ∷ token k.End 21 ∷ []) ≡ Syntax 2
@@ -135,6 +151,10 @@ export_list_and_from = refl
 -- export {a} ‸b;
 export_list_and_a_name : answer (token (k.Keyword 13) 0 ∷ token (k.Sign 0) 7 ∷ token (k.Name (codes "a")) 8 ∷ token (k.Sign 1) 9 ∷ token (k.Name (codes "b")) 11 ∷ token (k.Sign 6) 12 ∷ token k.End 13 ∷ []) ≡ Syntax 4
 export_list_and_a_name = refl
+
+-- export {a} from "m" ‸b
+export_from_and_a_name : answer (token (k.Keyword 13) 0 ∷ token (k.Sign 0) 7 ∷ token (k.Name (codes "a")) 8 ∷ token (k.Sign 1) 9 ∷ token (k.Name (codes "from")) 11 ∷ token (k.String (codes "m")) 16 ∷ token (k.Name (codes "b")) 20 ∷ token k.End 21 ∷ []) ≡ Syntax 6
+export_from_and_a_name = refl
 
 -- export {a}⏎‸(b);
 export_list_and_a_paren : answer (token (k.Keyword 13) 0 ∷ token (k.Sign 0) 7 ∷ token (k.Name (codes "a")) 8 ∷ token (k.Sign 1) 9 ∷ lined (k.Sign 2) 11 ∷ token (k.Name (codes "b")) 12 ∷ token (k.Sign 3) 13 ∷ token (k.Sign 6) 14 ∷ token k.End 15 ∷ []) ≡ Syntax 4

@@ -36,6 +36,14 @@ equal_against_less = refl
 less_against_shift_left : answer (token (k.Name (codes "a")) 0 ∷ token (k.Sign 9) 2 ∷ token (k.Name (codes "b")) 4 ∷ token (k.Sign 25) 6 ∷ token (k.Name (codes "c")) 9 ∷ token (k.Sign 6) 10 ∷ token (k.Name (codes "a")) 12 ∷ token (k.Sign 25) 14 ∷ token (k.Name (codes "b")) 17 ∷ token (k.Sign 9) 19 ∷ token (k.Name (codes "c")) 21 ∷ token (k.Sign 6) 22 ∷ token k.End 23 ∷ []) ≡ Parsed (t.more (t.Plain (t.Value (t.Binary b.Less (t.Name (named_at 0 (codes "a"))) (t.Binary b.ShiftLeft (t.Name (named_at 4 (codes "b"))) (t.Name (named_at 9 (codes "c"))))) semi.Written)) (t.more (t.Plain (t.Value (t.Binary b.Less (t.Binary b.ShiftLeft (t.Name (named_at 12 (codes "a"))) (t.Name (named_at 17 (codes "b")))) (t.Name (named_at 21 (codes "c")))) semi.Written)) t.none))
 less_against_shift_left = refl
 
+-- a << b in c; a in b << c;
+shift_left_against_in : answer (token (k.Name (codes "a")) 0 ∷ token (k.Sign 25) 2 ∷ token (k.Name (codes "b")) 5 ∷ token (k.Keyword 22) 7 ∷ token (k.Name (codes "c")) 10 ∷ token (k.Sign 6) 11 ∷ token (k.Name (codes "a")) 13 ∷ token (k.Keyword 22) 15 ∷ token (k.Name (codes "b")) 18 ∷ token (k.Sign 25) 20 ∷ token (k.Name (codes "c")) 23 ∷ token (k.Sign 6) 24 ∷ token k.End 25 ∷ []) ≡ Parsed (t.more (t.Plain (t.Value (t.In (t.Binary b.ShiftLeft (t.Name (named_at 0 (codes "a"))) (t.Name (named_at 5 (codes "b")))) (t.Name (named_at 10 (codes "c")))) semi.Written)) (t.more (t.Plain (t.Value (t.In (t.Name (named_at 13 (codes "a"))) (t.Binary b.ShiftLeft (t.Name (named_at 18 (codes "b"))) (t.Name (named_at 23 (codes "c"))))) semi.Written)) t.none))
+shift_left_against_in = refl
+
+-- a instanceof b << c; a << b instanceof c;
+shift_left_against_instanceof : answer (token (k.Name (codes "a")) 0 ∷ token (k.Keyword 23) 2 ∷ token (k.Name (codes "b")) 13 ∷ token (k.Sign 25) 15 ∷ token (k.Name (codes "c")) 18 ∷ token (k.Sign 6) 19 ∷ token (k.Name (codes "a")) 21 ∷ token (k.Sign 25) 23 ∷ token (k.Name (codes "b")) 26 ∷ token (k.Keyword 23) 28 ∷ token (k.Name (codes "c")) 39 ∷ token (k.Sign 6) 40 ∷ token k.End 41 ∷ []) ≡ Parsed (t.more (t.Plain (t.Value (t.InstanceOf (t.Name (named_at 0 (codes "a"))) (t.Binary b.ShiftLeft (t.Name (named_at 13 (codes "b"))) (t.Name (named_at 18 (codes "c"))))) semi.Written)) (t.more (t.Plain (t.Value (t.InstanceOf (t.Binary b.ShiftLeft (t.Name (named_at 21 (codes "a"))) (t.Name (named_at 26 (codes "b")))) (t.Name (named_at 39 (codes "c")))) semi.Written)) t.none))
+shift_left_against_instanceof = refl
+
 -- a << b + c; a + b << c;
 shift_left_against_add : answer (token (k.Name (codes "a")) 0 ∷ token (k.Sign 25) 2 ∷ token (k.Name (codes "b")) 5 ∷ token (k.Sign 17) 7 ∷ token (k.Name (codes "c")) 9 ∷ token (k.Sign 6) 10 ∷ token (k.Name (codes "a")) 12 ∷ token (k.Sign 17) 14 ∷ token (k.Name (codes "b")) 16 ∷ token (k.Sign 25) 18 ∷ token (k.Name (codes "c")) 21 ∷ token (k.Sign 6) 22 ∷ token k.End 23 ∷ []) ≡ Parsed (t.more (t.Plain (t.Value (t.Binary b.ShiftLeft (t.Name (named_at 0 (codes "a"))) (t.Binary b.Add (t.Name (named_at 5 (codes "b"))) (t.Name (named_at 9 (codes "c"))))) semi.Written)) (t.more (t.Plain (t.Value (t.Binary b.ShiftLeft (t.Binary b.Add (t.Name (named_at 12 (codes "a"))) (t.Name (named_at 16 (codes "b")))) (t.Name (named_at 21 (codes "c")))) semi.Written)) t.none))
 shift_left_against_add = refl
@@ -180,10 +188,6 @@ sign_in_parentheses_in_a_power = refl
 update_in_a_power : answer (token (k.Name (codes "a")) 0 ∷ token (k.Sign 23) 1 ∷ token (k.Sign 22) 4 ∷ token (k.Name (codes "b")) 7 ∷ token (k.Sign 6) 8 ∷ token (k.Sign 23) 10 ∷ token (k.Name (codes "a")) 12 ∷ token (k.Sign 22) 14 ∷ token (k.Name (codes "b")) 17 ∷ token (k.Sign 6) 18 ∷ token k.End 19 ∷ []) ≡ Parsed (t.more (t.Plain (t.Value (t.Binary b.Power (t.Update 0 true false (t.Name (named_at 0 (codes "a")))) (t.Name (named_at 7 (codes "b")))) semi.Written)) (t.more (t.Plain (t.Value (t.Binary b.Power (t.Update 10 true true (t.Name (named_at 12 (codes "a")))) (t.Name (named_at 17 (codes "b")))) semi.Written)) t.none))
 update_in_a_power = refl
 
--- a ** -b;
-power_under_a_sign_on_the_right : answer (token (k.Name (codes "a")) 0 ∷ token (k.Sign 22) 2 ∷ token (k.Sign 18) 5 ∷ token (k.Name (codes "b")) 6 ∷ token (k.Sign 6) 7 ∷ token k.End 8 ∷ []) ≡ Parsed (t.more (t.Plain (t.Value (t.Binary b.Power (t.Name (named_at 0 (codes "a"))) (t.Unary u.Negate (t.Name (named_at 6 (codes "b"))))) semi.Written)) t.none)
-power_under_a_sign_on_the_right = refl
-
 -- - -a; !!a; typeof typeof a;
 signs_of_signs : answer (token (k.Sign 18) 0 ∷ token (k.Sign 18) 2 ∷ token (k.Name (codes "a")) 3 ∷ token (k.Sign 6) 4 ∷ token (k.Sign 31) 6 ∷ token (k.Sign 31) 7 ∷ token (k.Name (codes "a")) 8 ∷ token (k.Sign 6) 9 ∷ token (k.Keyword 40) 11 ∷ token (k.Keyword 40) 18 ∷ token (k.Name (codes "a")) 25 ∷ token (k.Sign 6) 26 ∷ token k.End 27 ∷ []) ≡ Parsed (t.more (t.Plain (t.Value (t.Unary u.Negate (t.Unary u.Negate (t.Name (named_at 3 (codes "a"))))) semi.Written)) (t.more (t.Plain (t.Value (t.Unary u.Not (t.Unary u.Not (t.Name (named_at 8 (codes "a"))))) semi.Written)) (t.more (t.Plain (t.Value (t.Typeof (t.Typeof (t.Name (named_at 25 (codes "a"))))) semi.Written)) t.none)))
 signs_of_signs = refl
@@ -212,10 +216,6 @@ update_of_a_member_of_a_call = refl
 update_of_a_sum_s_operand : answer (token (k.Name (codes "a")) 0 ∷ token (k.Sign 17) 2 ∷ token (k.Sign 23) 4 ∷ token (k.Name (codes "b")) 6 ∷ token (k.Sign 17) 8 ∷ token (k.Name (codes "c")) 10 ∷ token (k.Sign 23) 11 ∷ token (k.Sign 6) 13 ∷ token k.End 14 ∷ []) ≡ Parsed (t.more (t.Plain (t.Value (t.Binary b.Add (t.Binary b.Add (t.Name (named_at 0 (codes "a"))) (t.Update 4 true true (t.Name (named_at 6 (codes "b"))))) (t.Update 10 true false (t.Name (named_at 10 (codes "c"))))) semi.Written)) t.none)
 update_of_a_sum_s_operand = refl
 
--- a⏎++b
-update_behind_a_line_break : answer (token (k.Name (codes "a")) 0 ∷ lined (k.Sign 23) 2 ∷ token (k.Name (codes "b")) 4 ∷ token k.End 5 ∷ []) ≡ Parsed (t.more (t.Plain (t.Value ((t.Name (named_at 0 (codes "a")))) semi.Missing)) (t.more (t.Plain (t.Value (t.Update 2 true true (t.Name (named_at 4 (codes "b")))) semi.Missing)) t.none))
-update_behind_a_line_break = refl
-
 -- a⏎--⏎b
 down_behind_a_line_break : answer (token (k.Name (codes "a")) 0 ∷ lined (k.Sign 24) 2 ∷ lined (k.Name (codes "b")) 5 ∷ token k.End 6 ∷ []) ≡ Parsed (t.more (t.Plain (t.Value ((t.Name (named_at 0 (codes "a")))) semi.Missing)) (t.more (t.Plain (t.Value (t.Update 2 false true (t.Name (named_at 5 (codes "b")))) semi.Missing)) t.none))
 down_behind_a_line_break = refl
@@ -223,6 +223,10 @@ down_behind_a_line_break = refl
 -- a || b ? c : d;
 conditional_against_or : answer (token (k.Name (codes "a")) 0 ∷ token (k.Sign 34) 2 ∷ token (k.Name (codes "b")) 5 ∷ token (k.Sign 36) 7 ∷ token (k.Name (codes "c")) 9 ∷ token (k.Sign 37) 11 ∷ token (k.Name (codes "d")) 13 ∷ token (k.Sign 6) 14 ∷ token k.End 15 ∷ []) ≡ Parsed (t.more (t.Plain (t.Value (t.Conditional (t.Or (t.Name (named_at 0 (codes "a"))) (t.Name (named_at 5 (codes "b")))) (t.Name (named_at 9 (codes "c"))) (t.Name (named_at 13 (codes "d")))) semi.Written)) t.none)
 conditional_against_or = refl
+
+-- a ?? b ? c : d;
+conditional_against_nullish : answer (token (k.Name (codes "a")) 0 ∷ token (k.Sign 35) 2 ∷ token (k.Name (codes "b")) 5 ∷ token (k.Sign 36) 7 ∷ token (k.Name (codes "c")) 9 ∷ token (k.Sign 37) 11 ∷ token (k.Name (codes "d")) 13 ∷ token (k.Sign 6) 14 ∷ token k.End 15 ∷ []) ≡ Parsed (t.more (t.Plain (t.Value (t.Conditional (t.Nullish (t.Name (named_at 0 (codes "a"))) (t.Name (named_at 5 (codes "b")))) (t.Name (named_at 9 (codes "c"))) (t.Name (named_at 13 (codes "d")))) semi.Written)) t.none)
+conditional_against_nullish = refl
 
 -- a ? b ? c : d : e ? f : g;
 conditional_in_both_branches : answer (token (k.Name (codes "a")) 0 ∷ token (k.Sign 36) 2 ∷ token (k.Name (codes "b")) 4 ∷ token (k.Sign 36) 6 ∷ token (k.Name (codes "c")) 8 ∷ token (k.Sign 37) 10 ∷ token (k.Name (codes "d")) 12 ∷ token (k.Sign 37) 14 ∷ token (k.Name (codes "e")) 16 ∷ token (k.Sign 36) 18 ∷ token (k.Name (codes "f")) 20 ∷ token (k.Sign 37) 22 ∷ token (k.Name (codes "g")) 24 ∷ token (k.Sign 6) 25 ∷ token k.End 26 ∷ []) ≡ Parsed (t.more (t.Plain (t.Value (t.Conditional (t.Name (named_at 0 (codes "a"))) (t.Conditional (t.Name (named_at 4 (codes "b"))) (t.Name (named_at 8 (codes "c"))) (t.Name (named_at 12 (codes "d")))) (t.Conditional (t.Name (named_at 16 (codes "e"))) (t.Name (named_at 20 (codes "f"))) (t.Name (named_at 24 (codes "g"))))) semi.Written)) t.none)

@@ -140,6 +140,14 @@ rest_parameter = refl
 default_parameter : answer (token (k.Keyword 18) 0 ∷ token (k.Name (codes "f")) 9 ∷ token (k.Sign 2) 10 ∷ token (k.Name (codes "a")) 11 ∷ token (k.Sign 38) 13 ∷ token (k.Number (pos 1)) 15 ∷ token (k.Sign 3) 16 ∷ token (k.Sign 0) 18 ∷ token (k.Sign 1) 19 ∷ token k.End 20 ∷ []) ≡ Syntax 4
 default_parameter = refl
 
+-- ({a(b ‸= 1) {}});
+default_parameter_of_a_method : answer (token (k.Sign 2) 0 ∷ token (k.Sign 0) 1 ∷ token (k.Name (codes "a")) 2 ∷ token (k.Sign 2) 3 ∷ token (k.Name (codes "b")) 4 ∷ token (k.Sign 38) 6 ∷ token (k.Number (pos 1)) 8 ∷ token (k.Sign 3) 9 ∷ token (k.Sign 0) 11 ∷ token (k.Sign 1) 12 ∷ token (k.Sign 1) 13 ∷ token (k.Sign 3) 14 ∷ token (k.Sign 6) 15 ∷ token k.End 16 ∷ []) ≡ Syntax 5
+default_parameter_of_a_method = refl
+
+-- ({a(‸...b) {}});
+rest_parameter_of_a_method : answer (token (k.Sign 2) 0 ∷ token (k.Sign 0) 1 ∷ token (k.Name (codes "a")) 2 ∷ token (k.Sign 2) 3 ∷ token (k.Sign 8) 4 ∷ token (k.Sign 8) 5 ∷ token (k.Sign 8) 6 ∷ token (k.Name (codes "b")) 7 ∷ token (k.Sign 3) 8 ∷ token (k.Sign 0) 10 ∷ token (k.Sign 1) 11 ∷ token (k.Sign 1) 12 ∷ token (k.Sign 3) 13 ∷ token (k.Sign 6) 14 ∷ token k.End 15 ∷ []) ≡ Syntax 4
+rest_parameter_of_a_method = refl
+
 -- function f(‸{a}) {}
 destructured_parameter : answer (token (k.Keyword 18) 0 ∷ token (k.Name (codes "f")) 9 ∷ token (k.Sign 2) 10 ∷ token (k.Sign 0) 11 ∷ token (k.Name (codes "a")) 12 ∷ token (k.Sign 1) 13 ∷ token (k.Sign 3) 14 ∷ token (k.Sign 0) 16 ∷ token (k.Sign 1) 17 ∷ token k.End 18 ∷ []) ≡ Syntax 3
 destructured_parameter = refl
@@ -147,6 +155,10 @@ destructured_parameter = refl
 -- function ‸* f() {}
 generator : answer (token (k.Keyword 18) 0 ∷ token (k.Sign 19) 9 ∷ token (k.Name (codes "f")) 11 ∷ token (k.Sign 2) 12 ∷ token (k.Sign 3) 13 ∷ token (k.Sign 0) 15 ∷ token (k.Sign 1) 16 ∷ token k.End 17 ∷ []) ≡ Syntax 1
 generator = refl
+
+-- (function ‸* () {});
+generator_expression : answer (token (k.Sign 2) 0 ∷ token (k.Keyword 18) 1 ∷ token (k.Sign 19) 10 ∷ token (k.Sign 2) 12 ∷ token (k.Sign 3) 13 ∷ token (k.Sign 0) 15 ∷ token (k.Sign 1) 16 ∷ token (k.Sign 3) 17 ∷ token (k.Sign 6) 18 ∷ token k.End 19 ∷ []) ≡ Syntax 2
+generator_expression = refl
 
 -- function f() {‸
 function_cut_off : answer (token (k.Keyword 18) 0 ∷ token (k.Name (codes "f")) 9 ∷ token (k.Sign 2) 10 ∷ token (k.Sign 3) 11 ∷ token (k.Sign 0) 13 ∷ token k.End 14 ∷ []) ≡ Syntax 5
@@ -259,6 +271,10 @@ class_cut_off = refl
 -- class A { ‸* a() {} }
 class_generator : answer (token (k.Keyword 4) 0 ∷ token (k.Name (codes "A")) 6 ∷ token (k.Sign 0) 8 ∷ token (k.Sign 19) 10 ∷ token (k.Name (codes "a")) 12 ∷ token (k.Sign 2) 13 ∷ token (k.Sign 3) 14 ∷ token (k.Sign 0) 16 ∷ token (k.Sign 1) 17 ∷ token (k.Sign 1) 19 ∷ token k.End 20 ∷ []) ≡ Syntax 3
 class_generator = refl
+
+-- class A { async ‸a() {} }
+class_async_method : answer (token (k.Keyword 4) 0 ∷ token (k.Name (codes "A")) 6 ∷ token (k.Sign 0) 8 ∷ token (k.Name (codes "async")) 10 ∷ token (k.Name (codes "a")) 16 ∷ token (k.Sign 2) 17 ∷ token (k.Sign 3) 18 ∷ token (k.Sign 0) 20 ∷ token (k.Sign 1) 21 ∷ token (k.Sign 1) 23 ∷ token k.End 24 ∷ []) ≡ Syntax 4
+class_async_method = refl
 
 -- class A { ‸...a }
 class_spread : answer (token (k.Keyword 4) 0 ∷ token (k.Name (codes "A")) 6 ∷ token (k.Sign 0) 8 ∷ token (k.Sign 8) 10 ∷ token (k.Sign 8) 11 ∷ token (k.Sign 8) 12 ∷ token (k.Name (codes "a")) 13 ∷ token (k.Sign 1) 15 ∷ token k.End 16 ∷ []) ≡ Syntax 3

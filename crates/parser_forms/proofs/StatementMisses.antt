@@ -24,6 +24,22 @@ for_in_of_an_expression = refl
 for_of : answer (token (k.Keyword 17) 0 ∷ token (k.Sign 2) 4 ∷ token (k.Keyword 5) 5 ∷ token (k.Name (codes "a")) 11 ∷ token (k.Name (codes "of")) 13 ∷ token (k.Name (codes "b")) 16 ∷ token (k.Sign 3) 17 ∷ token (k.Sign 6) 19 ∷ token k.End 20 ∷ []) ≡ Syntax 4
 for_of = refl
 
+-- for (a ‸of b) ;
+for_of_a_name : answer (token (k.Keyword 17) 0 ∷ token (k.Sign 2) 4 ∷ token (k.Name (codes "a")) 5 ∷ token (k.Name (codes "of")) 7 ∷ token (k.Name (codes "b")) 10 ∷ token (k.Sign 3) 11 ∷ token (k.Sign 6) 13 ∷ token k.End 14 ∷ []) ≡ Syntax 3
+for_of_a_name = refl
+
+-- for ([a] ‸of b) ;
+for_of_an_array : answer (token (k.Keyword 17) 0 ∷ token (k.Sign 2) 4 ∷ token (k.Sign 4) 5 ∷ token (k.Name (codes "a")) 6 ∷ token (k.Sign 5) 7 ∷ token (k.Name (codes "of")) 9 ∷ token (k.Name (codes "b")) 12 ∷ token (k.Sign 3) 13 ∷ token (k.Sign 6) 15 ∷ token k.End 16 ∷ []) ≡ Syntax 5
+for_of_an_array = refl
+
+-- for (let ‸[a] of b) ;
+for_of_a_destructured_array : answer (token (k.Keyword 17) 0 ∷ token (k.Sign 2) 4 ∷ token (k.Keyword 25) 5 ∷ token (k.Sign 4) 9 ∷ token (k.Name (codes "a")) 10 ∷ token (k.Sign 5) 11 ∷ token (k.Name (codes "of")) 13 ∷ token (k.Name (codes "b")) 16 ∷ token (k.Sign 3) 17 ∷ token (k.Sign 6) 19 ∷ token k.End 20 ∷ []) ≡ Syntax 3
+for_of_a_destructured_array = refl
+
+-- for ‸await (a of b) ;
+for_await : answer (token (k.Keyword 17) 0 ∷ token (k.Keyword 0) 4 ∷ token (k.Sign 2) 10 ∷ token (k.Name (codes "a")) 11 ∷ token (k.Name (codes "of")) 13 ∷ token (k.Name (codes "b")) 16 ∷ token (k.Sign 3) 17 ∷ token (k.Sign 6) 19 ∷ token k.End 20 ∷ []) ≡ Syntax 1
+for_await = refl
+
 -- let ‸{a} = b;
 destructured_object : answer (token (k.Keyword 25) 0 ∷ token (k.Sign 0) 4 ∷ token (k.Name (codes "a")) 5 ∷ token (k.Sign 1) 6 ∷ token (k.Sign 38) 8 ∷ token (k.Name (codes "b")) 10 ∷ token (k.Sign 6) 11 ∷ token k.End 12 ∷ []) ≡ Syntax 1
 destructured_object = refl
@@ -56,6 +72,10 @@ throw_of_nothing = refl
 name_behind_a_return : answer (token (k.Keyword 32) 0 ∷ token (k.Name (codes "a")) 7 ∷ token (k.Name (codes "b")) 9 ∷ token (k.Sign 6) 10 ∷ token k.End 11 ∷ []) ≡ Syntax 2
 name_behind_a_return = refl
 
+-- throw a ‸b
+name_behind_a_throw : answer (token (k.Keyword 37) 0 ∷ token (k.Name (codes "a")) 6 ∷ token (k.Name (codes "b")) 8 ∷ token k.End 9 ∷ []) ≡ Syntax 2
+name_behind_a_throw = refl
+
 -- let a = 1 ‸b;
 name_behind_a_declaration : answer (token (k.Keyword 25) 0 ∷ token (k.Name (codes "a")) 4 ∷ token (k.Sign 38) 6 ∷ token (k.Number (pos 1)) 8 ∷ token (k.Name (codes "b")) 10 ∷ token (k.Sign 6) 11 ∷ token k.End 12 ∷ []) ≡ Syntax 4
 name_behind_a_declaration = refl
@@ -71,6 +91,34 @@ declared_name_and_a_bracket = refl
 -- let a⏎‸+ b;
 declared_name_and_a_sign : answer (token (k.Keyword 25) 0 ∷ token (k.Name (codes "a")) 4 ∷ lined (k.Sign 17) 6 ∷ token (k.Name (codes "b")) 8 ∷ token (k.Sign 6) 9 ∷ token k.End 10 ∷ []) ≡ Syntax 2
 declared_name_and_a_sign = refl
+
+-- let a⏎‸== b;
+declared_name_and_an_equal : answer (token (k.Keyword 25) 0 ∷ token (k.Name (codes "a")) 4 ∷ lined (k.Sign 13) 6 ∷ token (k.Name (codes "b")) 9 ∷ token (k.Sign 6) 10 ∷ token k.End 11 ∷ []) ≡ Syntax 2
+declared_name_and_an_equal = refl
+
+-- let a⏎‸|| b;
+declared_name_and_an_or : answer (token (k.Keyword 25) 0 ∷ token (k.Name (codes "a")) 4 ∷ lined (k.Sign 34) 6 ∷ token (k.Name (codes "b")) 9 ∷ token (k.Sign 6) 10 ∷ token k.End 11 ∷ []) ≡ Syntax 2
+declared_name_and_an_or = refl
+
+-- let a⏎‸instanceof b;
+declared_name_and_an_instanceof : answer (token (k.Keyword 25) 0 ∷ token (k.Name (codes "a")) 4 ∷ lined (k.Keyword 23) 6 ∷ token (k.Name (codes "b")) 17 ∷ token (k.Sign 6) 18 ∷ token k.End 19 ∷ []) ≡ Syntax 2
+declared_name_and_an_instanceof = refl
+
+-- let a⏎‸** b;
+declared_name_and_a_power : answer (token (k.Keyword 25) 0 ∷ token (k.Name (codes "a")) 4 ∷ lined (k.Sign 22) 6 ∷ token (k.Name (codes "b")) 9 ∷ token (k.Sign 6) 10 ∷ token k.End 11 ∷ []) ≡ Syntax 2
+declared_name_and_a_power = refl
+
+-- let a⏎‸+= b;
+declared_name_and_an_assignment : answer (token (k.Keyword 25) 0 ∷ token (k.Name (codes "a")) 4 ∷ lined (k.Sign 39) 6 ∷ token (k.Name (codes "b")) 9 ∷ token (k.Sign 6) 10 ∷ token k.End 11 ∷ []) ≡ Syntax 2
+declared_name_and_an_assignment = refl
+
+-- let a⏎‸.b;
+declared_name_and_a_point : answer (token (k.Keyword 25) 0 ∷ token (k.Name (codes "a")) 4 ∷ lined (k.Sign 8) 6 ∷ token (k.Name (codes "b")) 7 ∷ token (k.Sign 6) 8 ∷ token k.End 9 ∷ []) ≡ Syntax 2
+declared_name_and_a_point = refl
+
+-- let a⏎‸=> b;
+declared_name_and_an_arrow : answer (token (k.Keyword 25) 0 ∷ token (k.Name (codes "a")) 4 ∷ lined (k.Sign 51) 6 ∷ token (k.Name (codes "b")) 9 ∷ token (k.Sign 6) 10 ∷ token k.End 11 ∷ []) ≡ Syntax 2
+declared_name_and_an_arrow = refl
 
 -- let a⏎‸`b`;
 declared_name_and_a_template : answer (token (k.Keyword 25) 0 ∷ token (k.Name (codes "a")) 4 ∷ lined (k.Template true true (codes "b")) 6 ∷ token (k.Sign 6) 9 ∷ token k.End 10 ∷ []) ≡ Syntax 2

@@ -77,6 +77,82 @@ conditional_over_line_breaks = refl
 in_over_a_line_break : answer (token (k.Name (codes "a")) 0 ∷ lined (k.Keyword 22) 2 ∷ token (k.Name (codes "b")) 5 ∷ token k.End 6 ∷ []) ≡ Parsed (t.more (t.Plain (t.Value (t.In (t.Name (named_at 0 (codes "a"))) (t.Name (named_at 5 (codes "b")))) semi.Missing)) t.none)
 in_over_a_line_break = refl
 
+-- a⏎?? b
+nullish_over_a_line_break : answer (token (k.Name (codes "a")) 0 ∷ lined (k.Sign 35) 2 ∷ token (k.Name (codes "b")) 5 ∷ token k.End 6 ∷ []) ≡ Parsed (t.more (t.Plain (t.Value (t.Nullish (t.Name (named_at 0 (codes "a"))) (t.Name (named_at 5 (codes "b")))) semi.Missing)) t.none)
+nullish_over_a_line_break = refl
+
+-- a⏎|| b;
+or_over_a_line_break : answer (token (k.Name (codes "a")) 0 ∷ lined (k.Sign 34) 2 ∷ token (k.Name (codes "b")) 5 ∷ token (k.Sign 6) 6 ∷ token k.End 7 ∷ []) ≡ Parsed (t.more (t.Plain (t.Value (t.Or (t.Name (named_at 0 (codes "a"))) (t.Name (named_at 5 (codes "b")))) semi.Written)) t.none)
+or_over_a_line_break = refl
+
+-- a⏎&& b
+and_over_a_line_break : answer (token (k.Name (codes "a")) 0 ∷ lined (k.Sign 33) 2 ∷ token (k.Name (codes "b")) 5 ∷ token k.End 6 ∷ []) ≡ Parsed (t.more (t.Plain (t.Value (t.And (t.Name (named_at 0 (codes "a"))) (t.Name (named_at 5 (codes "b")))) semi.Missing)) t.none)
+and_over_a_line_break = refl
+
+-- a⏎| b
+bit_or_over_a_line_break : answer (token (k.Name (codes "a")) 0 ∷ lined (k.Sign 29) 2 ∷ token (k.Name (codes "b")) 4 ∷ token k.End 5 ∷ []) ≡ Parsed (t.more (t.Plain (t.Value (t.Binary b.BitOr (t.Name (named_at 0 (codes "a"))) (t.Name (named_at 4 (codes "b")))) semi.Missing)) t.none)
+bit_or_over_a_line_break = refl
+
+-- a⏎^ b
+bit_xor_over_a_line_break : answer (token (k.Name (codes "a")) 0 ∷ lined (k.Sign 30) 2 ∷ token (k.Name (codes "b")) 4 ∷ token k.End 5 ∷ []) ≡ Parsed (t.more (t.Plain (t.Value (t.Binary b.BitXor (t.Name (named_at 0 (codes "a"))) (t.Name (named_at 4 (codes "b")))) semi.Missing)) t.none)
+bit_xor_over_a_line_break = refl
+
+-- a⏎& b
+bit_and_over_a_line_break : answer (token (k.Name (codes "a")) 0 ∷ lined (k.Sign 28) 2 ∷ token (k.Name (codes "b")) 4 ∷ token k.End 5 ∷ []) ≡ Parsed (t.more (t.Plain (t.Value (t.Binary b.BitAnd (t.Name (named_at 0 (codes "a"))) (t.Name (named_at 4 (codes "b")))) semi.Missing)) t.none)
+bit_and_over_a_line_break = refl
+
+-- a⏎== b
+equal_over_a_line_break : answer (token (k.Name (codes "a")) 0 ∷ lined (k.Sign 13) 2 ∷ token (k.Name (codes "b")) 5 ∷ token k.End 6 ∷ []) ≡ Parsed (t.more (t.Plain (t.Value (t.Binary b.Equal (t.Name (named_at 0 (codes "a"))) (t.Name (named_at 5 (codes "b")))) semi.Missing)) t.none)
+equal_over_a_line_break = refl
+
+-- a⏎!= b⏎=== c⏎!== d
+equalities_over_line_breaks : answer (token (k.Name (codes "a")) 0 ∷ lined (k.Sign 14) 2 ∷ token (k.Name (codes "b")) 5 ∷ lined (k.Sign 15) 7 ∷ token (k.Name (codes "c")) 11 ∷ lined (k.Sign 16) 13 ∷ token (k.Name (codes "d")) 17 ∷ token k.End 18 ∷ []) ≡ Parsed (t.more (t.Plain (t.Value (t.Binary b.StrictNotEqual (t.Binary b.StrictEqual (t.Binary b.NotEqual (t.Name (named_at 0 (codes "a"))) (t.Name (named_at 5 (codes "b")))) (t.Name (named_at 11 (codes "c")))) (t.Name (named_at 17 (codes "d")))) semi.Missing)) t.none)
+equalities_over_line_breaks = refl
+
+-- a⏎< b
+less_over_a_line_break : answer (token (k.Name (codes "a")) 0 ∷ lined (k.Sign 9) 2 ∷ token (k.Name (codes "b")) 4 ∷ token k.End 5 ∷ []) ≡ Parsed (t.more (t.Plain (t.Value (t.Binary b.Less (t.Name (named_at 0 (codes "a"))) (t.Name (named_at 4 (codes "b")))) semi.Missing)) t.none)
+less_over_a_line_break = refl
+
+-- a⏎> b⏎<= c⏎>= d
+comparisons_over_line_breaks : answer (token (k.Name (codes "a")) 0 ∷ lined (k.Sign 10) 2 ∷ token (k.Name (codes "b")) 4 ∷ lined (k.Sign 11) 6 ∷ token (k.Name (codes "c")) 9 ∷ lined (k.Sign 12) 11 ∷ token (k.Name (codes "d")) 14 ∷ token k.End 15 ∷ []) ≡ Parsed (t.more (t.Plain (t.Value (t.Binary b.GreaterOrEqual (t.Binary b.LessOrEqual (t.Binary b.Greater (t.Name (named_at 0 (codes "a"))) (t.Name (named_at 4 (codes "b")))) (t.Name (named_at 9 (codes "c")))) (t.Name (named_at 14 (codes "d")))) semi.Missing)) t.none)
+comparisons_over_line_breaks = refl
+
+-- a⏎instanceof b
+instanceof_over_a_line_break : answer (token (k.Name (codes "a")) 0 ∷ lined (k.Keyword 23) 2 ∷ token (k.Name (codes "b")) 13 ∷ token k.End 14 ∷ []) ≡ Parsed (t.more (t.Plain (t.Value (t.InstanceOf (t.Name (named_at 0 (codes "a"))) (t.Name (named_at 13 (codes "b")))) semi.Missing)) t.none)
+instanceof_over_a_line_break = refl
+
+-- a⏎<< b
+shift_left_over_a_line_break : answer (token (k.Name (codes "a")) 0 ∷ lined (k.Sign 25) 2 ∷ token (k.Name (codes "b")) 5 ∷ token k.End 6 ∷ []) ≡ Parsed (t.more (t.Plain (t.Value (t.Binary b.ShiftLeft (t.Name (named_at 0 (codes "a"))) (t.Name (named_at 5 (codes "b")))) semi.Missing)) t.none)
+shift_left_over_a_line_break = refl
+
+-- a⏎>> b⏎>>> c
+shifts_right_over_line_breaks : answer (token (k.Name (codes "a")) 0 ∷ lined (k.Sign 26) 2 ∷ token (k.Name (codes "b")) 5 ∷ lined (k.Sign 27) 7 ∷ token (k.Name (codes "c")) 11 ∷ token k.End 12 ∷ []) ≡ Parsed (t.more (t.Plain (t.Value (t.Binary b.ShiftRightUnsigned (t.Binary b.ShiftRight (t.Name (named_at 0 (codes "a"))) (t.Name (named_at 5 (codes "b")))) (t.Name (named_at 11 (codes "c")))) semi.Missing)) t.none)
+shifts_right_over_line_breaks = refl
+
+-- a⏎* b
+product_over_a_line_break : answer (token (k.Name (codes "a")) 0 ∷ lined (k.Sign 19) 2 ∷ token (k.Name (codes "b")) 4 ∷ token k.End 5 ∷ []) ≡ Parsed (t.more (t.Plain (t.Value (t.Binary b.Multiply (t.Name (named_at 0 (codes "a"))) (t.Name (named_at 4 (codes "b")))) semi.Missing)) t.none)
+product_over_a_line_break = refl
+
+-- a⏎% b
+remainder_over_a_line_break : answer (token (k.Name (codes "a")) 0 ∷ lined (k.Sign 21) 2 ∷ token (k.Name (codes "b")) 4 ∷ token k.End 5 ∷ []) ≡ Parsed (t.more (t.Plain (t.Value (t.Binary b.Remainder (t.Name (named_at 0 (codes "a"))) (t.Name (named_at 4 (codes "b")))) semi.Missing)) t.none)
+remainder_over_a_line_break = refl
+
+-- a⏎** b
+power_over_a_line_break : answer (token (k.Name (codes "a")) 0 ∷ lined (k.Sign 22) 2 ∷ token (k.Name (codes "b")) 5 ∷ token k.End 6 ∷ []) ≡ Parsed (t.more (t.Plain (t.Value (t.Binary b.Power (t.Name (named_at 0 (codes "a"))) (t.Name (named_at 5 (codes "b")))) semi.Missing)) t.none)
+power_over_a_line_break = refl
+
+-- a⏎+= b;
+add_assigned_over_a_line_break : answer (token (k.Name (codes "a")) 0 ∷ lined (k.Sign 39) 2 ∷ token (k.Name (codes "b")) 5 ∷ token (k.Sign 6) 6 ∷ token k.End 7 ∷ []) ≡ Parsed (t.more (t.Plain (t.Value (t.Assign 0 (t.Name (named_at 0 (codes "a"))) (Some b.Add) (t.Name (named_at 5 (codes "b")))) semi.Written)) t.none)
+add_assigned_over_a_line_break = refl
+
+-- a⏎-= b⏎*= c⏎/= d⏎%= e⏎**= f
+signs_assigned_over_line_breaks : answer (token (k.Name (codes "a")) 0 ∷ lined (k.Sign 40) 2 ∷ token (k.Name (codes "b")) 5 ∷ lined (k.Sign 41) 7 ∷ token (k.Name (codes "c")) 10 ∷ lined (k.Sign 42) 12 ∷ token (k.Name (codes "d")) 15 ∷ lined (k.Sign 43) 17 ∷ token (k.Name (codes "e")) 20 ∷ lined (k.Sign 44) 22 ∷ token (k.Name (codes "f")) 26 ∷ token k.End 27 ∷ []) ≡ Parsed (t.more (t.Plain (t.Value (t.Assign 0 (t.Name (named_at 0 (codes "a"))) (Some b.Subtract) (t.Assign 5 (t.Name (named_at 5 (codes "b"))) (Some b.Multiply) (t.Assign 10 (t.Name (named_at 10 (codes "c"))) (Some b.Divide) (t.Assign 15 (t.Name (named_at 15 (codes "d"))) (Some b.Remainder) (t.Assign 20 (t.Name (named_at 20 (codes "e"))) (Some b.Power) (t.Name (named_at 26 (codes "f")))))))) semi.Missing)) t.none)
+signs_assigned_over_line_breaks = refl
+
+-- a⏎<<= b⏎>>= c⏎>>>= d⏎&= e⏎|= f⏎^= g
+bits_assigned_over_line_breaks : answer (token (k.Name (codes "a")) 0 ∷ lined (k.Sign 45) 2 ∷ token (k.Name (codes "b")) 6 ∷ lined (k.Sign 46) 8 ∷ token (k.Name (codes "c")) 12 ∷ lined (k.Sign 47) 14 ∷ token (k.Name (codes "d")) 19 ∷ lined (k.Sign 48) 21 ∷ token (k.Name (codes "e")) 24 ∷ lined (k.Sign 49) 26 ∷ token (k.Name (codes "f")) 29 ∷ lined (k.Sign 50) 31 ∷ token (k.Name (codes "g")) 34 ∷ token k.End 35 ∷ []) ≡ Parsed (t.more (t.Plain (t.Value (t.Assign 0 (t.Name (named_at 0 (codes "a"))) (Some b.ShiftLeft) (t.Assign 6 (t.Name (named_at 6 (codes "b"))) (Some b.ShiftRight) (t.Assign 12 (t.Name (named_at 12 (codes "c"))) (Some b.ShiftRightUnsigned) (t.Assign 19 (t.Name (named_at 19 (codes "d"))) (Some b.BitAnd) (t.Assign 24 (t.Name (named_at 24 (codes "e"))) (Some b.BitOr) (t.Assign 29 (t.Name (named_at 29 (codes "f"))) (Some b.BitXor) (t.Name (named_at 34 (codes "g"))))))))) semi.Missing)) t.none)
+bits_assigned_over_line_breaks = refl
+
 -- let a⏎let b = 1⏎const c = 2
 let_at_a_line_break : answer (token (k.Keyword 25) 0 ∷ token (k.Name (codes "a")) 4 ∷ lined (k.Keyword 25) 6 ∷ token (k.Name (codes "b")) 10 ∷ token (k.Sign 38) 12 ∷ token (k.Number (pos 1)) 14 ∷ lined (k.Keyword 5) 16 ∷ token (k.Name (codes "c")) 22 ∷ token (k.Sign 38) 24 ∷ token (k.Number (pos 2)) 26 ∷ token k.End 27 ∷ []) ≡ Parsed (t.more (t.Plain (t.Declare false (t.more (t.DeclaratorOf (named_at 4 (codes "a")) t.absent) t.none) semi.Missing)) (t.more (t.Plain (t.Declare false (t.more (t.DeclaratorOf (named_at 10 (codes "b")) (t.present (t.Number (pos 1)))) t.none) semi.Missing)) (t.more (t.Plain (t.Declare true (t.more (t.DeclaratorOf (named_at 22 (codes "c")) (t.present (t.Number (pos 2)))) t.none) semi.Missing)) t.none)))
 let_at_a_line_break = refl
@@ -100,6 +176,30 @@ jumps_at_line_breaks = refl
 -- { break }
 jump_before_a_brace : answer (token (k.Sign 0) 0 ∷ token (k.Keyword 1) 2 ∷ token (k.Sign 1) 8 ∷ token k.End 9 ∷ []) ≡ Parsed (t.more (t.Plain (t.Block (t.more (t.Break 2 semi.Missing) t.none))) t.none)
 jump_before_a_brace = refl
+
+-- { let a }
+let_before_a_brace : answer (token (k.Sign 0) 0 ∷ token (k.Keyword 25) 2 ∷ token (k.Name (codes "a")) 6 ∷ token (k.Sign 1) 8 ∷ token k.End 9 ∷ []) ≡ Parsed (t.more (t.Plain (t.Block (t.more (t.Declare false (t.more (t.DeclaratorOf (named_at 6 (codes "a")) t.absent) t.none) semi.Missing) t.none))) t.none)
+let_before_a_brace = refl
+
+-- { throw a }
+throw_before_a_brace : answer (token (k.Sign 0) 0 ∷ token (k.Keyword 37) 2 ∷ token (k.Name (codes "a")) 8 ∷ token (k.Sign 1) 10 ∷ token k.End 11 ∷ []) ≡ Parsed (t.more (t.Plain (t.Block (t.more (t.Throw (t.Name (named_at 8 (codes "a"))) semi.Missing) t.none))) t.none)
+throw_before_a_brace = refl
+
+-- while (a) { continue }
+continue_before_a_brace : answer (token (k.Keyword 43) 0 ∷ token (k.Sign 2) 6 ∷ token (k.Name (codes "a")) 7 ∷ token (k.Sign 3) 8 ∷ token (k.Sign 0) 10 ∷ token (k.Keyword 6) 12 ∷ token (k.Sign 1) 21 ∷ token k.End 22 ∷ []) ≡ Parsed (t.more (t.Plain (t.While (t.Name (named_at 7 (codes "a"))) (t.Block (t.more (t.Continue 12 semi.Missing) t.none)))) t.none)
+continue_before_a_brace = refl
+
+-- { return }
+return_before_a_brace : answer (token (k.Sign 0) 0 ∷ token (k.Keyword 32) 2 ∷ token (k.Sign 1) 9 ∷ token k.End 10 ∷ []) ≡ Parsed (t.more (t.Plain (t.Block (t.more (t.Return 2 t.absent semi.Missing) t.none))) t.none)
+return_before_a_brace = refl
+
+-- { return a }
+return_of_a_value_before_a_brace : answer (token (k.Sign 0) 0 ∷ token (k.Keyword 32) 2 ∷ token (k.Name (codes "a")) 9 ∷ token (k.Sign 1) 11 ∷ token k.End 12 ∷ []) ≡ Parsed (t.more (t.Plain (t.Block (t.more (t.Return 2 (t.present (t.Name (named_at 9 (codes "a")))) semi.Missing) t.none))) t.none)
+return_of_a_value_before_a_brace = refl
+
+-- { do ; while (a) }
+do_before_a_brace : answer (token (k.Sign 0) 0 ∷ token (k.Keyword 10) 2 ∷ token (k.Sign 6) 5 ∷ token (k.Keyword 43) 7 ∷ token (k.Sign 2) 13 ∷ token (k.Name (codes "a")) 14 ∷ token (k.Sign 3) 15 ∷ token (k.Sign 1) 17 ∷ token k.End 18 ∷ []) ≡ Parsed (t.more (t.Plain (t.Block (t.more (t.DoWhile t.Empty (t.Name (named_at 14 (codes "a"))) semi.Missing) t.none))) t.none)
+do_before_a_brace = refl
 
 -- continue
 jump_at_the_end : answer (token (k.Keyword 6) 0 ∷ token k.End 8 ∷ []) ≡ Parsed (t.more (t.Plain (t.Continue 0 semi.Missing)) t.none)
