@@ -1,6 +1,7 @@
--- Laws of the modules that tokens spell: their signs pair off in number, the places of their functions
--- ascend, and no two functions' numbers have one place.
-use Rattle.std.proofs.Common.{◌≡◌, ℕ, zero, suc, ◌<◌, ◌≤◌, List, [], ◌∷◌, slice_get, Option, Some, None, Ok, refl, ap, subst, arith}
+-- Laws of the modules that tokens spell: their signs pair off in number, their End is the last and the
+-- only one, the places of their functions ascend, and no two functions' numbers have one place.
+use Rattle.std.proofs.Common.{◌≡◌, ℕ, zero, suc, ◌<◌, ◌≤◌, List, [], ◌∷◌, slice_get, Option, Some, None, Ok, refl, ap, sym, subst, arith}
+use Rattle.es_model.specs.declared.token.TokenKind.{TokenKind}
 use Rattle.es_model.specs.declared.token.TokenKind.TheVariants as k
 use Rattle.es_model.specs.Tree as t
 use Rattle.es_model.specs.Tree.{Tree}
@@ -8,20 +9,24 @@ use Rattle.es_model.specs.Functions.{FunctionForm, functions, function_at}
 use Rattle.es_model.specs.Tokens.{tokens_of}
 use Rattle.es_model.specs.Readings.{Tokens, word}
 use Rattle.es_model.specs.Spelling.{Spells, spells}
-use Rattle.es_model.specs.SyntaxLaws.{AscendFrom, place_of_function, FunctionsAscendFrom, openings, closings}
-use Rattle.es_model.proofs.SpellingLaws.{Within, Weighs, kind_weighs, Read, reads, sequence_reads}
+use Rattle.es_model.specs.SyntaxLaws.{AscendFrom, EndsOnce, place_of_function, FunctionsAscendFrom, opens, closes, one_if, openings, closings}
+use Rattle.es_model.proofs.SpellingLaws.{Within, Read, reads, sequence_reads}
 use Rattle.es_model.proofs.TokenLaws.{places_ascend}
 
 module_read : (items : Tree (t.list t.item)) (tokens : Tokens) (h : spells items tokens) → Read 0 0 0 (functions items) tokens (h.0 ∷ [])
 module_read items tokens h = sequence_reads (functions items) (Spells items) (reads items) tokens (h.0 ∷ []) h.2
 
-end_weighs : Weighs 0 0 k.End
+end_is_no_sign : (kind : TokenKind) → kind ≡ k.End → (one_if (opens kind) ≡ 0) × (one_if (closes kind) ≡ 0)
 unfolding word
-end_weighs = (refl, refl)
+end_is_no_sign kind e = subst (λ kind. (one_if (opens kind) ≡ 0) × (one_if (closes kind) ≡ 0)) (sym e) (refl, refl)
 
 -- a module's tokens have as many closing signs as opening ones
 pub signs_pair_off : (items : Tree (t.list t.item)) (tokens : Tokens) → spells items tokens → openings tokens ≡ closings tokens
-signs_pair_off items tokens h = let end = kind_weighs 0 0 h.0.kind k.End end_weighs h.1 in omega (arith, (module_read items tokens h).signs, end.0, end.1)
+signs_pair_off items tokens h = let end = end_is_no_sign h.0.kind h.1 in omega (arith, (module_read items tokens h).signs, end.0, end.1)
+
+-- a module's tokens have one End, their last
+pub spelled_ends_once : (items : Tree (t.list t.item)) (tokens : Tokens) → spells items tokens → EndsOnce tokens
+spelled_ends_once items tokens h = (module_read items tokens h).ends (subst (λ kind. EndsOnce (record h.0 { kind = kind } ∷ [])) (sym h.1) refl)
 
 ascending : (low high : ℕ) (forms : List FunctionForm) → Within low high forms → FunctionsAscendFrom low forms
 ascending low high [] h = tt

@@ -1,5 +1,5 @@
 -- What each form takes, as `SpellingParts` puts it: at least one token, as many closing signs as opening
--- ones, and the places of its functions within those of its tokens, in their order.
+-- ones, no End, and the places of its functions within those of its tokens, in their order.
 use Rattle.std.proofs.Common.{ℕ, ◌<◌, Bool, true, false, List, length, Option, refl, sym, append-nil, arith}
 use lib.IntN.{ℤ}
 use Rattle.es_model.specs.declared.kinds.Semi.{Semi}

@@ -1,6 +1,6 @@
--- What the spelling of each form takes: at least one token, as many closing signs as opening ones, and
--- the places of its functions within those of its tokens, in their order. The clauses follow those of
--- `Spells`.
+-- What the spelling of each form takes: at least one token, as many closing signs as opening ones, no
+-- End, and the places of its functions within those of its tokens, in their order. The clauses follow
+-- those of `Spells`.
 use Rattle.std.proofs.Common.{◌≡◌, ℕ, suc, ◌+◌, ◌≤◌, Bool, true, false, List, [], ◌∷◌, ◌++◌, length, Option, Some, None, refl, ap, sym, ◌∙◌, subst, append-nil, codes, inl, inr, arith}
 use Prim.Native.String.{String}
 use lib.IntN.{ℤ}
@@ -23,10 +23,11 @@ use Rattle.es_model.specs.Tree as t
 use Rattle.es_model.specs.Tree.{Tree, Text}
 use Rattle.es_model.specs.Functions.{FunctionForm, Generated, functions, generated}
 use Rattle.es_model.specs.Levels.{operator_sign, assignment_sign, unary_sign, Holder, InObject, InClass}
-use Rattle.es_model.specs.Readings.{Tokens, Reading, First, nothing, ◌▸◌, ◌∣◌, One, word, plain_name, the, name, the_name, maybe_name, property, here, same_line, semicolon}
+use Rattle.es_model.specs.Readings.{Tokens, Reading, First, same_kind, nothing, ◌▸◌, ◌∣◌, One, word, plain_name, the, name, the_name, maybe_name, property, here, same_line, semicolon}
 use Rattle.es_model.specs.Spelling as s
 use Rattle.es_model.specs.Spelling.{Spelled, Maybe, LeftOut, There, AsExpression, AsStatement, AsDefault, AsMember, Semicolons, no_more, one_more}
-use Rattle.es_model.specs.SyntaxLaws.{AscendFrom, place_of_function, opens, closes, one_if, openings, closings}
+use Rattle.es_model.specs.SyntaxLaws.{AscendFrom, EndsOnce, place_of_function, opens, closes, one_if, openings, closings}
+use Rattle.es_model.proofs.TokenLaws.{one_more_ends}
 
 -- the places of functions ascend strictly from `low` to below `high`
 abbrev pub Within : ℕ → ℕ → List FunctionForm → Type 0
@@ -34,11 +35,12 @@ Within low high [] = low ≤ high
 Within low high (form ∷ forms) = (low ≤ place_of_function form) × Within (suc (place_of_function form)) high forms
 
 -- What stands between two lists of tokens, the second the end of the first: at least so many tokens,
--- so many opening signs and so many closing ones, both more or less by one number, and the places of
--- these functions.
+-- so many opening signs and so many closing ones, both more or less by one number, no End, and the
+-- places of these functions.
 pub record Read (least up down : ℕ) (forms : List FunctionForm) (from to : Tokens) : Type 0 where
   pub fewer : least + length to ≤ length from
   pub signs : openings from + closings to + down ≡ closings from + openings to + up
+  pub ends : EndsOnce to → EndsOnce from
   pub places : (low : ℕ) → AscendFrom low from → (high : ℕ) × AscendFrom high to × Within low high forms
 
 abbrev pub Reads : ℕ → ℕ → ℕ → List FunctionForm → Reading → Type 0
@@ -62,11 +64,12 @@ read_joined : {l u d m v e : ℕ} {fs gs : List FunctionForm} {from mid to : Tok
 read_joined {fs = fs} {gs = gs} x y = record {
   fewer = omega (arith, x.fewer, y.fewer);
   signs = omega (arith, x.signs, y.signs);
+  ends = λ h. x.ends (y.ends h);
   places = λ low ascend. let p = x.places low ascend in let q = y.places p.0 p.1 in (q.0, q.1, within_joined low p.0 q.0 fs gs p.2 q.2);
 }
 
 read_loose : {l u d : ℕ} {fs : List FunctionForm} {from to : Tokens} → Read l u d fs from to → Read 0 u d fs from to
-read_loose x = record { fewer = omega (arith, x.fewer); signs = x.signs; places = x.places }
+read_loose x = record { fewer = omega (arith, x.fewer); signs = x.signs; ends = x.ends; places = x.places }
 
 pub along : {l u d : ℕ} {fs gs : List FunctionForm} {r : Reading} → fs ≡ gs → Reads l u d fs r → Reads l u d gs r
 along {l} {u} {d} {r = r} e reads = subst (λ fs. Reads l u d fs r) e reads
@@ -83,10 +86,10 @@ loose reads from to h = read_loose (reads from to h)
 
 -- at least one token, and as many closing signs as opening ones
 pub once : {l n : ℕ} {fs : List FunctionForm} {r : Reading} → Reads (suc l) n n fs r → Reads 1 0 0 fs r
-once reads from to h = let x = reads from to h in record { fewer = omega (arith, x.fewer); signs = omega (arith, x.signs); places = x.places }
+once reads from to h = let x = reads from to h in record { fewer = omega (arith, x.fewer); signs = omega (arith, x.signs); ends = x.ends; places = x.places }
 
 any : {l n : ℕ} {fs : List FunctionForm} {r : Reading} → Reads l n n fs r → Reads 0 0 0 fs r
-any reads from to h = let x = reads from to h in record { fewer = omega (arith, x.fewer); signs = omega (arith, x.signs); places = x.places }
+any reads from to h = let x = reads from to h in record { fewer = omega (arith, x.fewer); signs = omega (arith, x.signs); ends = x.ends; places = x.places }
 
 pub under : (fact : Reading) {l u d : ℕ} {fs : List FunctionForm} {r : Reading} → Reads l u d fs r → Reads l u d fs (λ from to. fact from to × r from to)
 under fact reads from to h = reads from to h.1
@@ -99,19 +102,21 @@ pub nothing_reads : Reads 0 0 0 [] nothing
 nothing_reads from to h = record {
   fewer = omega (arith, ap length h);
   signs = omega (arith, ap openings h, ap closings h);
+  ends = subst EndsOnce (sym h);
   places = λ low ascend. (low, subst (AscendFrom low) h ascend, omega arith);
 }
 
--- One token.
+-- One token, which isn't End.
 
 abbrev pub Weighs : ℕ → ℕ → TokenKind → Type 0
-Weighs u d kind = (one_if (opens kind) ≡ u) × (one_if (closes kind) ≡ d)
+Weighs u d kind = (one_if (opens kind) ≡ u) × (one_if (closes kind) ≡ d) × (same_kind kind k.End ≡ false)
 
 pub one_reads : (test : Token → Type 0) (u d : ℕ) → ((token : Token) → test token → Weighs u d token.kind) → Reads 1 u d [] (One test)
 one_reads test u d weighs [] to h = absurd h
 one_reads test u d weighs (token ∷ tokens) to h = let w = weighs token h.0 in record {
   fewer = omega (arith, ap length h.1);
   signs = omega (arith, w.0, w.1, ap openings h.1, ap closings h.1);
+  ends = λ g. one_more_ends token tokens w.2 (subst EndsOnce (sym h.1) g);
   places = λ low ascend. (suc token.at, subst (AscendFrom (suc token.at)) h.1 ascend.1, omega (arith, ascend.0));
 }
 
@@ -120,6 +125,7 @@ one_starts test u d weighs form [] to h = absurd h.0
 one_starts test u d weighs form (token ∷ tokens) to h = let w = weighs token h.1.0 in record {
   fewer = omega (arith, ap length h.1.1);
   signs = omega (arith, w.0, w.1, ap openings h.1.1, ap closings h.1.1);
+  ends = λ g. one_more_ends token tokens w.2 (subst EndsOnce (sym h.1.1) g);
   places = λ low ascend. (suc token.at, subst (AscendFrom (suc token.at)) h.1.1 ascend.1, (omega (arith, ascend.0, h.0), omega (arith, h.0)));
 }
 
@@ -136,7 +142,7 @@ the_starts text u d w = one_starts _ u d (λ token e. kind_weighs u d token.kind
 
 name_weighs : (text : Text) → Weighs 0 0 (k.Name text)
 unfolding word
-name_weighs text = (refl, refl)
+name_weighs text = (refl, refl, refl)
 
 pub the_name_reads : (text : String) → Reads 1 0 0 [] (the_name text)
 the_name_reads text = one_reads _ 0 0 (λ token e. kind_weighs 0 0 token.kind (k.Name (codes text)) (name_weighs (codes text)) e)
@@ -152,16 +158,16 @@ name_starts identifier = one_starts _ 0 0 (λ token e. kind_weighs 0 0 token.kin
 
 pub number_weighs : (value : ℤ) → Weighs 0 0 (k.Number value)
 unfolding word
-number_weighs value = (refl, refl)
+number_weighs value = (refl, refl, refl)
 
 pub string_weighs : (text : Text) → Weighs 0 0 (k.String text)
 unfolding word
-string_weighs text = (refl, refl)
+string_weighs text = (refl, refl, refl)
 
 property_weighs : (kind : TokenKind) (text : Text) → plain_name kind ≡ Some text → Weighs 0 0 kind
 unfolding word
-property_weighs (k.Name _) text e = (refl, refl)
-property_weighs (k.Keyword _) text e = (refl, refl)
+property_weighs (k.Name _) text e = (refl, refl, refl)
+property_weighs (k.Keyword _) text e = (refl, refl, refl)
 property_weighs (k.Number _) text e = absurd (cc e)
 property_weighs (k.String _) text e = absurd (cc e)
 property_weighs (k.Template _ _ _) text e = absurd (cc e)
@@ -173,31 +179,31 @@ plain text w = the_reads text 0 0 w
 
 pub comma : Reads 1 0 0 [] (the ",")
 unfolding word
-comma = plain "," (refl, refl)
+comma = plain "," (refl, refl, refl)
 
 pub opening_parenthesis : Reads 1 1 0 [] (the "(")
 unfolding word
-opening_parenthesis = the_reads "(" 1 0 (refl, refl)
+opening_parenthesis = the_reads "(" 1 0 (refl, refl, refl)
 
 pub closing_parenthesis : Reads 1 0 1 [] (the ")")
 unfolding word
-closing_parenthesis = the_reads ")" 0 1 (refl, refl)
+closing_parenthesis = the_reads ")" 0 1 (refl, refl, refl)
 
 opening_bracket : Reads 1 1 0 [] (the "[")
 unfolding word
-opening_bracket = the_reads "[" 1 0 (refl, refl)
+opening_bracket = the_reads "[" 1 0 (refl, refl, refl)
 
 closing_bracket : Reads 1 0 1 [] (the "]")
 unfolding word
-closing_bracket = the_reads "]" 0 1 (refl, refl)
+closing_bracket = the_reads "]" 0 1 (refl, refl, refl)
 
 opening_brace : Reads 1 1 0 [] (the "{")
 unfolding word
-opening_brace = the_reads "{" 1 0 (refl, refl)
+opening_brace = the_reads "{" 1 0 (refl, refl, refl)
 
 closing_brace : Reads 1 0 1 [] (the "}")
 unfolding word
-closing_brace = the_reads "}" 0 1 (refl, refl)
+closing_brace = the_reads "}" 0 1 (refl, refl, refl)
 
 -- something between two such signs
 pub in_parentheses : {l n : ℕ} {fs : List FunctionForm} {r : Reading} → Reads l n n fs r → Reads 1 0 0 fs (the "(" ▸ r ▸ the ")")
@@ -215,64 +221,64 @@ then_in_parentheses reads more = once (seq opening_parenthesis (seq (any reads) 
 
 pub operator_weighs : (operator : BinaryOperator) → Weighs 0 0 (word (operator_sign operator))
 unfolding word
-operator_weighs b.Add = (refl, refl)
-operator_weighs b.Subtract = (refl, refl)
-operator_weighs b.Multiply = (refl, refl)
-operator_weighs b.Divide = (refl, refl)
-operator_weighs b.Remainder = (refl, refl)
-operator_weighs b.Power = (refl, refl)
-operator_weighs b.BitAnd = (refl, refl)
-operator_weighs b.BitOr = (refl, refl)
-operator_weighs b.BitXor = (refl, refl)
-operator_weighs b.ShiftLeft = (refl, refl)
-operator_weighs b.ShiftRight = (refl, refl)
-operator_weighs b.ShiftRightUnsigned = (refl, refl)
-operator_weighs b.Less = (refl, refl)
-operator_weighs b.Greater = (refl, refl)
-operator_weighs b.LessOrEqual = (refl, refl)
-operator_weighs b.GreaterOrEqual = (refl, refl)
-operator_weighs b.Equal = (refl, refl)
-operator_weighs b.NotEqual = (refl, refl)
-operator_weighs b.StrictEqual = (refl, refl)
-operator_weighs b.StrictNotEqual = (refl, refl)
+operator_weighs b.Add = (refl, refl, refl)
+operator_weighs b.Subtract = (refl, refl, refl)
+operator_weighs b.Multiply = (refl, refl, refl)
+operator_weighs b.Divide = (refl, refl, refl)
+operator_weighs b.Remainder = (refl, refl, refl)
+operator_weighs b.Power = (refl, refl, refl)
+operator_weighs b.BitAnd = (refl, refl, refl)
+operator_weighs b.BitOr = (refl, refl, refl)
+operator_weighs b.BitXor = (refl, refl, refl)
+operator_weighs b.ShiftLeft = (refl, refl, refl)
+operator_weighs b.ShiftRight = (refl, refl, refl)
+operator_weighs b.ShiftRightUnsigned = (refl, refl, refl)
+operator_weighs b.Less = (refl, refl, refl)
+operator_weighs b.Greater = (refl, refl, refl)
+operator_weighs b.LessOrEqual = (refl, refl, refl)
+operator_weighs b.GreaterOrEqual = (refl, refl, refl)
+operator_weighs b.Equal = (refl, refl, refl)
+operator_weighs b.NotEqual = (refl, refl, refl)
+operator_weighs b.StrictEqual = (refl, refl, refl)
+operator_weighs b.StrictNotEqual = (refl, refl, refl)
 
 pub unary_weighs : (operator : UnaryOperator) → Weighs 0 0 (word (unary_sign operator))
 unfolding word
-unary_weighs u.Not = (refl, refl)
-unary_weighs u.Negate = (refl, refl)
-unary_weighs u.Plus = (refl, refl)
-unary_weighs u.BitNot = (refl, refl)
+unary_weighs u.Not = (refl, refl, refl)
+unary_weighs u.Negate = (refl, refl, refl)
+unary_weighs u.Plus = (refl, refl, refl)
+unary_weighs u.BitNot = (refl, refl, refl)
 
 pub assigning_reads : (operator : Option BinaryOperator) → Reads 1 0 0 [] (s.assigning (assignment_sign operator))
 unfolding word
-assigning_reads None = plain "=" (refl, refl)
-assigning_reads (Some b.Add) = plain "+=" (refl, refl)
-assigning_reads (Some b.Subtract) = plain "-=" (refl, refl)
-assigning_reads (Some b.Multiply) = plain "*=" (refl, refl)
-assigning_reads (Some b.Divide) = plain "/=" (refl, refl)
-assigning_reads (Some b.Remainder) = plain "%=" (refl, refl)
-assigning_reads (Some b.Power) = plain "**=" (refl, refl)
-assigning_reads (Some b.BitAnd) = plain "&=" (refl, refl)
-assigning_reads (Some b.BitOr) = plain "|=" (refl, refl)
-assigning_reads (Some b.BitXor) = plain "^=" (refl, refl)
-assigning_reads (Some b.ShiftLeft) = plain "<<=" (refl, refl)
-assigning_reads (Some b.ShiftRight) = plain ">>=" (refl, refl)
-assigning_reads (Some b.ShiftRightUnsigned) = plain ">>>=" (refl, refl)
+assigning_reads None = plain "=" (refl, refl, refl)
+assigning_reads (Some b.Add) = plain "+=" (refl, refl, refl)
+assigning_reads (Some b.Subtract) = plain "-=" (refl, refl, refl)
+assigning_reads (Some b.Multiply) = plain "*=" (refl, refl, refl)
+assigning_reads (Some b.Divide) = plain "/=" (refl, refl, refl)
+assigning_reads (Some b.Remainder) = plain "%=" (refl, refl, refl)
+assigning_reads (Some b.Power) = plain "**=" (refl, refl, refl)
+assigning_reads (Some b.BitAnd) = plain "&=" (refl, refl, refl)
+assigning_reads (Some b.BitOr) = plain "|=" (refl, refl, refl)
+assigning_reads (Some b.BitXor) = plain "^=" (refl, refl, refl)
+assigning_reads (Some b.ShiftLeft) = plain "<<=" (refl, refl, refl)
+assigning_reads (Some b.ShiftRight) = plain ">>=" (refl, refl, refl)
+assigning_reads (Some b.ShiftRightUnsigned) = plain ">>>=" (refl, refl, refl)
 assigning_reads (Some _) = λ from to h. absurd h
 
 pub step_reads : (up : Bool) → Reads 1 0 0 [] (s.step up)
 unfolding word
-step_reads true = plain "++" (refl, refl)
-step_reads false = plain "--" (refl, refl)
+step_reads true = plain "++" (refl, refl, refl)
+step_reads false = plain "--" (refl, refl, refl)
 
 pub declaring_word_reads : (constant : Bool) → Reads 1 0 0 [] (s.declaring_word constant)
 unfolding word
-declaring_word_reads true = plain "const" (refl, refl)
-declaring_word_reads false = plain "let" (refl, refl)
+declaring_word_reads true = plain "const" (refl, refl, refl)
+declaring_word_reads false = plain "let" (refl, refl, refl)
 
 pub written_reads : Reads 1 0 0 [] (the ";")
 unfolding word
-written_reads = plain ";" (refl, refl)
+written_reads = plain ";" (refl, refl, refl)
 
 pub semicolon_reads : (may : Token → Bool) (mark : Semi) → Reads 0 0 0 [] (semicolon may mark)
 semicolon_reads may semi.Written = loose written_reads
@@ -301,7 +307,7 @@ names_read (one ∷ (two ∷ rest)) = loose (seq (name_reads one) (seq comma (na
 
 parameters_start : (names : List Identifier) → Starts 1 0 0 [] (the "(" ▸ s.names names ▸ the ")")
 unfolding word
-parameters_start names form from to h = once (seq (the_starts "(" 1 0 (refl, refl) form) (seq (names_read names) closing_parenthesis)) from to (h.1.0, (h.0, h.1.1), h.1.2)
+parameters_start names form from to h = once (seq (the_starts "(" 1 0 (refl, refl, refl) form) (seq (names_read names) closing_parenthesis)) from to (h.1.0, (h.0, h.1.1), h.1.2)
 
 either_starts : {r q : Reading} → Starts 1 0 0 [] r → Starts 1 0 0 [] q → Starts 1 0 0 [] (r ∣ q)
 either_starts one other form from to (first, inl h) = one form from to (first, h)
@@ -368,7 +374,7 @@ maybe_reads forms (There reading) takes = loose takes
 
 piece_reads : (text : Text) (first last : Bool) → Takes [] (s.piece text first last)
 unfolding word
-piece_reads text first last = one_reads _ 0 0 (λ token e. kind_weighs 0 0 token.kind (k.Template first last text) (refl, refl) e)
+piece_reads text first last = one_reads _ 0 0 (λ token e. kind_weighs 0 0 token.kind (k.Template first last text) (refl, refl, refl) e)
 
 pub pieces_read : (first : Bool) (texts : List Text) (forms : List FunctionForm) (values : List {1} Reading) → Each Takes forms values → Takes forms (s.pieces first texts values)
 pieces_read first [] forms values each = λ from to h. absurd h
@@ -400,11 +406,11 @@ rest_reads parameters body = then_in_parentheses parameters body
 
 plain_function_reads : (form : FunctionForm) {fs : List FunctionForm} {own body : Reading} → Reads 0 0 0 [] own → (parameters : List Identifier) → Takes fs body → Takes (form ∷ fs) (s.plain_function (place_of_function form) own parameters body)
 unfolding word
-plain_function_reads form own parameters body from to h = once (seq (the_starts "function" 0 0 (refl, refl) form) (seq own (rest_reads (names_read parameters) body))) from to (h.1.0, (h.0, h.1.1), h.1.2)
+plain_function_reads form own parameters body from to h = once (seq (the_starts "function" 0 0 (refl, refl, refl) form) (seq own (rest_reads (names_read parameters) body))) from to (h.1.0, (h.0, h.1.1), h.1.2)
 
 arrow_reads : (form : FunctionForm) {fs : List FunctionForm} {body : Reading} (parameters : List Identifier) → Takes fs body → Takes (form ∷ fs) (here (place_of_function form) (s.arrow_names parameters ▸ same_line (the "=>") ▸ body))
 unfolding word
-arrow_reads form parameters body from to h = once (seq (arrow_names_start parameters form) (seq (under (λ a c. First (λ token. token.line_before ≡ false) a) (plain "=>" (refl, refl))) body)) from to (h.1.0, (h.0, h.1.1), h.1.2)
+arrow_reads form parameters body from to h = once (seq (arrow_names_start parameters form) (seq (under (λ a c. First (λ token. token.line_before ≡ false) a) (plain "=>" (refl, refl, refl))) body)) from to (h.1.0, (h.0, h.1.1), h.1.2)
 
 pub expression_function_reads : (form : FunctionForm) (own : Option Identifier) (kind : FunctionKind) (parameters : List Identifier) {fs : List FunctionForm} (body : Bool → Reading) → ((arrow : Bool) → Takes fs (body arrow)) → Takes (form ∷ fs) (s.function_reading AsExpression (place_of_function form) own kind parameters body)
 expression_function_reads form own f.Plain parameters body takes = plain_function_reads form (maybe_name_reads own) parameters (takes false)
@@ -421,8 +427,8 @@ default_function_reads form _ _ parameters body takes = λ from to h. absurd h
 
 pub class_reads : (written : Bool) (class : Tree t.class) {fs : List FunctionForm} {more : Reading} → Reads 0 0 0 fs more → Takes (generated written class ++ fs) (here (place_of_function (Generated class)) (the "class" ▸ more))
 unfolding word
-class_reads true class more from to h = once (seq (plain "class" (refl, refl)) more) from to h.1
-class_reads false class more from to h = once (seq (the_starts "class" 0 0 (refl, refl) (Generated class)) more) from to (h.1.0, (h.0, h.1.1), h.1.2)
+class_reads true class more from to h = once (seq (plain "class" (refl, refl, refl)) more) from to h.1
+class_reads false class more from to h = once (seq (the_starts "class" 0 0 (refl, refl, refl) (Generated class)) more) from to (h.1.0, (h.0, h.1.1), h.1.2)
 
 -- Members. A method's place is that of its member, so its key stands behind it.
 
@@ -448,7 +454,7 @@ accessor_starts m.Setter takes starts = then_starts (the_name_starts "set") take
 
 member_starts : (fixed : Bool) (kind : MemberKind) {fs : List FunctionForm} {r : Reading} → Takes fs r → Starts 1 0 0 fs r → Starts 1 0 0 fs (s.static_before fixed ▸ s.accessor_word kind ▸ r)
 unfolding word
-member_starts true kind takes starts = then_starts (the_starts "static" 0 0 (refl, refl)) (accessor_reads kind takes)
+member_starts true kind takes starts = then_starts (the_starts "static" 0 0 (refl, refl, refl)) (accessor_reads kind takes)
 member_starts false kind takes starts = nothing_starts (accessor_starts kind takes starts)
 
 -- the reading of a key, as it is and where a token begins it
@@ -463,7 +469,7 @@ function_member_reads form holder at fixed kind key reading own due parameters b
 
 value_member_reads : (holder : Holder) (at : ℕ) (fixed : Bool) {keys fs : List FunctionForm} (key value : Reading) → Takes keys key → Takes fs value → Takes (keys ++ fs) (s.value_member holder at fixed key value)
 unfolding word
-value_member_reads InObject at false key value one other = under _ (once (seq one (seq (plain ":" (refl, refl)) other)))
+value_member_reads InObject at false key value one other = under _ (once (seq one (seq (plain ":" (refl, refl, refl)) other)))
 value_member_reads InObject at true key value one other = λ from to h. absurd h
 value_member_reads (InClass derived) at fixed key value one other = λ from to h. absurd h
 
@@ -476,7 +482,7 @@ short_member_reads _ _ _ _ = λ from to h. absurd h
 
 outer_name_reads : (identifier : Identifier) → Takes [] (s.outer_name identifier)
 unfolding word
-outer_name_reads identifier = either (name_reads identifier) (under _ (under _ (plain "default" (refl, refl))))
+outer_name_reads identifier = either (name_reads identifier) (under _ (under _ (plain "default" (refl, refl, refl))))
 
 pair_reads : (both taken given_name : Identifier → Reading) → ((one : Identifier) → Takes [] (both one)) → ((one : Identifier) → Takes [] (taken one)) → ((one : Identifier) → Takes [] (given_name one)) → (pair : Pair) → Takes [] (s.pair both taken given_name pair)
 pair_reads both taken given_name b c d pair = either (under _ (b pair.given)) (once (seq (c pair.taken) (seq (the_name_reads "as") (d pair.given))))
@@ -560,150 +566,150 @@ with_function_reads _ _ _ _ _ _ _ _ _ _ _ _ _ keyed takes others = λ from to h.
 -- the key between its brackets
 pub computed_reads : {fs : List FunctionForm} {r : Reading} → Takes fs r → KeyTakes fs (the "[" ▸ r ▸ the "]")
 unfolding word
-computed_reads takes = (in_brackets takes, λ form from to h. once (seq (the_starts "[" 1 0 (refl, refl) form) (behind takes closing_bracket)) from to (h.1.0, (h.0, h.1.1), h.1.2))
+computed_reads takes = (in_brackets takes, λ form from to h. once (seq (the_starts "[" 1 0 (refl, refl, refl) form) (behind takes closing_bracket)) from to (h.1.0, (h.0, h.1.1), h.1.2))
 
 -- The other words of the forms.
 
 pub word_this : Takes [] (the "this")
 unfolding word
-word_this = plain "this" (refl, refl)
+word_this = plain "this" (refl, refl, refl)
 
 pub word_null : Takes [] (the "null")
 unfolding word
-word_null = plain "null" (refl, refl)
+word_null = plain "null" (refl, refl, refl)
 
 pub word_true : Takes [] (the "true")
 unfolding word
-word_true = plain "true" (refl, refl)
+word_true = plain "true" (refl, refl, refl)
 
 pub word_false : Takes [] (the "false")
 unfolding word
-word_false = plain "false" (refl, refl)
+word_false = plain "false" (refl, refl, refl)
 
 pub word_point : Takes [] (the ".")
 unfolding word
-word_point = plain "." (refl, refl)
+word_point = plain "." (refl, refl, refl)
 
 pub word_super : Takes [] (the "super")
 unfolding word
-word_super = plain "super" (refl, refl)
+word_super = plain "super" (refl, refl, refl)
 
 pub word_new : Takes [] (the "new")
 unfolding word
-word_new = plain "new" (refl, refl)
+word_new = plain "new" (refl, refl, refl)
 
 pub word_typeof : Takes [] (the "typeof")
 unfolding word
-word_typeof = plain "typeof" (refl, refl)
+word_typeof = plain "typeof" (refl, refl, refl)
 
 pub word_void : Takes [] (the "void")
 unfolding word
-word_void = plain "void" (refl, refl)
+word_void = plain "void" (refl, refl, refl)
 
 pub word_delete : Takes [] (the "delete")
 unfolding word
-word_delete = plain "delete" (refl, refl)
+word_delete = plain "delete" (refl, refl, refl)
 
 pub word_in : Takes [] (the "in")
 unfolding word
-word_in = plain "in" (refl, refl)
+word_in = plain "in" (refl, refl, refl)
 
 pub word_instanceof : Takes [] (the "instanceof")
 unfolding word
-word_instanceof = plain "instanceof" (refl, refl)
+word_instanceof = plain "instanceof" (refl, refl, refl)
 
 pub word_and : Takes [] (the "&&")
 unfolding word
-word_and = plain "&&" (refl, refl)
+word_and = plain "&&" (refl, refl, refl)
 
 pub word_or : Takes [] (the "||")
 unfolding word
-word_or = plain "||" (refl, refl)
+word_or = plain "||" (refl, refl, refl)
 
 pub word_nullish : Takes [] (the "??")
 unfolding word
-word_nullish = plain "??" (refl, refl)
+word_nullish = plain "??" (refl, refl, refl)
 
 pub word_question : Takes [] (the "?")
 unfolding word
-word_question = plain "?" (refl, refl)
+word_question = plain "?" (refl, refl, refl)
 
 pub word_colon : Takes [] (the ":")
 unfolding word
-word_colon = plain ":" (refl, refl)
+word_colon = plain ":" (refl, refl, refl)
 
 pub word_extends : Takes [] (the "extends")
 unfolding word
-word_extends = plain "extends" (refl, refl)
+word_extends = plain "extends" (refl, refl, refl)
 
 pub word_equals : Takes [] (the "=")
 unfolding word
-word_equals = plain "=" (refl, refl)
+word_equals = plain "=" (refl, refl, refl)
 
 pub word_if : Takes [] (the "if")
 unfolding word
-word_if = plain "if" (refl, refl)
+word_if = plain "if" (refl, refl, refl)
 
 pub word_else : Takes [] (the "else")
 unfolding word
-word_else = plain "else" (refl, refl)
+word_else = plain "else" (refl, refl, refl)
 
 pub word_for : Takes [] (the "for")
 unfolding word
-word_for = plain "for" (refl, refl)
+word_for = plain "for" (refl, refl, refl)
 
 pub word_while : Takes [] (the "while")
 unfolding word
-word_while = plain "while" (refl, refl)
+word_while = plain "while" (refl, refl, refl)
 
 pub word_do : Takes [] (the "do")
 unfolding word
-word_do = plain "do" (refl, refl)
+word_do = plain "do" (refl, refl, refl)
 
 pub word_break : Takes [] (the "break")
 unfolding word
-word_break = plain "break" (refl, refl)
+word_break = plain "break" (refl, refl, refl)
 
 pub word_continue : Takes [] (the "continue")
 unfolding word
-word_continue = plain "continue" (refl, refl)
+word_continue = plain "continue" (refl, refl, refl)
 
 pub word_return : Takes [] (the "return")
 unfolding word
-word_return = plain "return" (refl, refl)
+word_return = plain "return" (refl, refl, refl)
 
 pub word_throw : Takes [] (the "throw")
 unfolding word
-word_throw = plain "throw" (refl, refl)
+word_throw = plain "throw" (refl, refl, refl)
 
 pub word_try : Takes [] (the "try")
 unfolding word
-word_try = plain "try" (refl, refl)
+word_try = plain "try" (refl, refl, refl)
 
 pub word_catch : Takes [] (the "catch")
 unfolding word
-word_catch = plain "catch" (refl, refl)
+word_catch = plain "catch" (refl, refl, refl)
 
 pub word_finally : Takes [] (the "finally")
 unfolding word
-word_finally = plain "finally" (refl, refl)
+word_finally = plain "finally" (refl, refl, refl)
 
 pub word_switch : Takes [] (the "switch")
 unfolding word
-word_switch = plain "switch" (refl, refl)
+word_switch = plain "switch" (refl, refl, refl)
 
 pub word_default : Takes [] (the "default")
 unfolding word
-word_default = plain "default" (refl, refl)
+word_default = plain "default" (refl, refl, refl)
 
 pub word_case : Takes [] (the "case")
 unfolding word
-word_case = plain "case" (refl, refl)
+word_case = plain "case" (refl, refl, refl)
 
 pub word_import : Takes [] (the "import")
 unfolding word
-word_import = plain "import" (refl, refl)
+word_import = plain "import" (refl, refl, refl)
 
 pub word_export : Takes [] (the "export")
 unfolding word
-word_export = plain "export" (refl, refl)
+word_export = plain "export" (refl, refl, refl)

@@ -11,6 +11,7 @@ use Rattle.es_model.specs.declared.token.TokenKind.{TokenKind}
 use Rattle.es_model.specs.declared.token.TokenKind.TheVariants as k
 use Rattle.es_model.specs.Readings.{same_kind, is_end}
 use Rattle.es_model.specs.SyntaxLaws.{AscendFrom}
+pub use Rattle.es_model.specs.SyntaxLaws.{EndsOnce}
 use Rattle.es_model.specs.Tokens as s
 use Rattle.es_model.specs.Tokens.{Element, Between, Word, Wrong, Brace, Part, parts_of, element, braces_after, width}
 
@@ -89,11 +90,6 @@ element_fine braces at c cs =
     (fine_if (s.begins (codes "//") (c ∷ cs)) (s.line_comment (s.behind cs)) _ between
     (fine_if (s.begins (codes "/*") (c ∷ cs)) _ _ (block_fine at (s.behind cs)) (word_fine braces at c cs))))
 
--- a list has one End, its last
-abbrev pub EndsOnce : List Token → Type 0
-EndsOnce [] = ⊥
-EndsOnce (token ∷ tokens) = elim (is_end token) [ true ↦ tokens ≡ [] | false ↦ EndsOnce tokens ]
-
 abbrev Good : Result (List Token) LexFault → Type 0
 Good (Ok tokens) = EndsOnce tokens
 Good (Err fault) = Unit {0}
@@ -101,12 +97,16 @@ Good (Err fault) = Unit {0}
 no_end : {kind : TokenKind} {more : ℕ} → Fine (Word kind more) → same_kind kind k.End ≡ false
 no_end (word e) = e
 
-before_good : (token : Token) (r : Result (List Token) LexFault) → is_end token ≡ false → Good r → Good (s.before token r)
-before_good token (Ok tokens) e h = ended (is_end token) e h
+-- no End before a list with one End, its last
+pub one_more_ends : (token : Token) (tokens : List Token) → is_end token ≡ false → EndsOnce tokens → EndsOnce (token ∷ tokens)
+one_more_ends token tokens e h = ended (is_end token) e
   where
-    ended : (b : Bool) → b ≡ false → EndsOnce tokens → elim b as (λ c. Type 0) [ true ↦ tokens ≡ [] | false ↦ EndsOnce tokens ]
-    ended true e h = absurd (cc e)
-    ended false e h = h
+    ended : (b : Bool) → b ≡ false → elim b as (λ c. Type 0) [ true ↦ tokens ≡ [] | false ↦ EndsOnce tokens ]
+    ended true e = absurd (cc e)
+    ended false e = h
+
+before_good : (token : Token) (r : Result (List Token) LexFault) → is_end token ≡ false → Good r → Good (s.before token r)
+before_good token (Ok tokens) e h = one_more_ends token tokens e h
 before_good token (Err fault) e h = tt
 
 ending_good : (at : ℕ) (line : Bool) (o : Option ℕ) → Good (s.tokens_in line (record { at = at; element = elim o [ Some begun ↦ Wrong (OpenTemplate begun) | None ↦ Word k.End 0 ]; spelling = [] } ∷ []))

@@ -1,4 +1,5 @@
--- The two counts of a tree together, as one pass over it finds them: each stands still at 4294967295.
+-- The two counts of a tree together: its nesting and the number of its functions, each 4294967295 where
+-- it is more.
 use Rattle.std.specs.Prelude.{suc, ◌+◌, max, min, Bool, true, false}
 use Rattle.es_model.specs.declared.measure.Counts.{Counts}
 use Rattle.es_model.specs.Tree as t
@@ -104,3 +105,26 @@ counted t.none = nothing_counted
 counted (t.more a0 a1) = beside (counted a0) (counted a1)
 counted t.absent = nothing_counted
 counted (t.present a0) = counted a0
+
+-- an expression that has a list, a function or a class in it, or three expressions
+abbrev pub is_compound : Tree t.expression → Bool
+is_compound (t.Template _ _) = true
+is_compound (t.Array _) = true
+is_compound (t.Object _) = true
+is_compound (t.Function _) = true
+is_compound (t.Class _) = true
+is_compound (t.Call _ _) = true
+is_compound (t.New _ _) = true
+is_compound (t.SuperCall _ _) = true
+is_compound (t.Conditional _ _ _) = true
+is_compound _ = false
+
+-- a loop, or a statement that has nothing in it
+abbrev pub is_loop_or_bare : Tree t.statement → Bool
+is_loop_or_bare (t.For _ _ _ _) = true
+is_loop_or_bare (t.While _ _) = true
+is_loop_or_bare (t.DoWhile _ _ _) = true
+is_loop_or_bare t.Empty = true
+is_loop_or_bare (t.Break _ _) = true
+is_loop_or_bare (t.Continue _ _) = true
+is_loop_or_bare _ = false

@@ -1,5 +1,5 @@
 -- How deep a tree is nested, in statements, expressions, functions and classes.
-use Rattle.std.specs.Prelude.{ℕ, suc, max, Bool, true, false}
+use Rattle.std.specs.Prelude.{ℕ, suc, max}
 use Rattle.es_model.specs.Tree as t
 use Rattle.es_model.specs.Tree.{Tree}
 
@@ -84,26 +84,3 @@ nesting t.none = 0
 nesting (t.more a0 a1) = max (nesting a0) (nesting a1)
 nesting t.absent = 0
 nesting (t.present a0) = nesting a0
-
--- an expression that has a list, a function or a class in it, or three expressions
-abbrev pub is_compound : Tree t.expression → Bool
-is_compound (t.Template _ _) = true
-is_compound (t.Array _) = true
-is_compound (t.Object _) = true
-is_compound (t.Function _) = true
-is_compound (t.Class _) = true
-is_compound (t.Call _ _) = true
-is_compound (t.New _ _) = true
-is_compound (t.SuperCall _ _) = true
-is_compound (t.Conditional _ _ _) = true
-is_compound _ = false
-
--- a loop, or a statement that has nothing in it
-abbrev pub is_loop_or_bare : Tree t.statement → Bool
-is_loop_or_bare (t.For _ _ _ _) = true
-is_loop_or_bare (t.While _ _) = true
-is_loop_or_bare (t.DoWhile _ _ _) = true
-is_loop_or_bare t.Empty = true
-is_loop_or_bare (t.Break _ _) = true
-is_loop_or_bare (t.Continue _ _) = true
-is_loop_or_bare _ = false

@@ -1,15 +1,20 @@
 -- What the laws of tokens and trees are stated in.
-use Rattle.std.specs.Prelude.{ℕ, suc, ◌+◌, ◌≤◌, Bool, true, false, ◌||◌, List, [], ◌∷◌}
+use Rattle.std.specs.Prelude.{◌≡◌, ℕ, suc, ◌+◌, ◌≤◌, Bool, true, false, ◌||◌, List, [], ◌∷◌}
 use Rattle.es_model.specs.declared.token.Token.{Token}
 use Rattle.es_model.specs.declared.token.TokenKind.{TokenKind}
 use Rattle.es_model.specs.Tree as t
-use Rattle.es_model.specs.Readings.{same_kind, word}
+use Rattle.es_model.specs.Readings.{same_kind, is_end, word}
 use Rattle.es_model.specs.Functions.{FunctionForm, Written, Generated}
 
 -- The places of tokens ascend strictly, and none is below `low`.
 abbrev pub AscendFrom : ℕ → List Token → Type 0
 AscendFrom low [] = Unit {0}
 AscendFrom low (token ∷ tokens) = (low ≤ token.at) × AscendFrom (suc token.at) tokens
+
+-- A list of tokens has one End, its last.
+abbrev pub EndsOnce : List Token → Type 0
+EndsOnce [] = ⊥
+EndsOnce (token ∷ tokens) = elim (is_end token) [ true ↦ tokens ≡ [] | false ↦ EndsOnce tokens ]
 
 -- the place where the text of a function begins; of a generated constructor, that of the word `class`
 abbrev pub place_of_function : FunctionForm → ℕ

@@ -3,7 +3,7 @@
 ghost use Rattle.std.specs.Prelude.{◌≡◌, true, false, min, map};
 ghost use Rattle.std.specs.List.{list_any};
 ghost use Rattle.es_model.specs.Tree.{listed};
-ghost use Rattle.es_model.specs.Nesting.{nesting, is_compound, is_loop_or_bare};
+ghost use Rattle.es_model.specs.Nesting.{nesting};
 ghost use Rattle.es_model.specs.Functions.{function_count, is_constructor};
 ghost use Rattle.es_model.specs.Counted.{
   nothing_counted,
@@ -11,6 +11,8 @@ ghost use Rattle.es_model.specs.Counted.{
   inside,
   and_function,
   counted,
+  is_compound,
+  is_loop_or_bare,
 };
 ghost use Rattle.es_model.specs.View.{
   expression_of,
