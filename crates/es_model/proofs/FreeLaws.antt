@@ -1,9 +1,7 @@
--- Each mention has one place, at which what it means is held, and each number below the count of
--- functions is that of one function.
+-- Each mention has one place, at which what it means is held; no place holds two bindings; and each
+-- number below the count of functions is that of one function.
 use Rattle.std.proofs.Common.{◌≡◌, ℕ, zero, suc, ◌+◌, ◌<◌, ◌≤◌, ◌⊎◌, Bool, true, false, not, ◌&&◌, ◌||◌, ◌==◌, List, [], ◌∷◌, ◌++◌, length, take, drop, slice_get, Option, Some, None, Ok, refl, ap, sym, ◌∙◌, subst, inl, inr, take-append-drop, arith}
-use Rattle.std.specs.Cmp.{first_so, second_so}
 use Rattle.std.proofs.lemmas.Bool.{eqb-true}
-use Rattle.es_model.specs.declared.kinds.FunctionKind.{FunctionKind}
 use Rattle.es_model.specs.declared.place.Place.{Place}
 use Rattle.es_model.specs.declared.place.Place.TheVariants.{Local, Boxed, Outer, Import, Global, Unbound}
 use Rattle.es_model.specs.Tree as t
@@ -18,7 +16,7 @@ use Rattle.es_model.specs.FreeNames.{Mentioned, Binds, Refers, Free, Temporary, 
 use Rattle.es_model.proofs.Places.{StandsFrom, stands}
 use Rattle.es_model.proofs.ModuleLaws.{functions_ascend}
 use Rattle.es_model.proofs.TokenLaws.{places_ascend}
-use Rattle.es_model.proofs.Mentions.{Among, among_front, among_rest, among_either, Descends, OuterOf, Known, at_top, bound, this_of, KnownWhat, Sound, mentions_sound}
+use Rattle.es_model.proofs.Mentions.{Among, among_front, among_rest, among_either, Descends, OuterOf, Known, at_top, bound, this_of, KnownWhat, mentions_sound}
 
 got : {A : Type 0} → (list : List A) (i : ℕ) → i < length list → (one : A) × (slice_get list i ≡ Some one)
 got [] i lt = absurd (omega arith)
@@ -117,15 +115,15 @@ holds_binding number round inner [] binding top same h = absurd h
 holds_binding number round inner (one ∷ rest) binding top same (inr h) = kept (same_round round one.round) (held_by number one.what) (held_from (suc number) round rest) (HoldsBinding binding) (holds_binding (suc number) round inner rest binding top same h)
 holds_binding number round inner (one ∷ rest) binding top same (inl e) =
     subst (λ x. Among (one_more (same_round round x.round) (held_by number x.what) (held_from (suc number) round rest)) (HoldsBinding binding)) (sym e)
-      (subst (λ b. Among (one_more b (held_by number (Binds binding)) (held_from (suc number) round rest)) (HoldsBinding binding)) (sym same)
-        (subst (λ b. Among (elim b [ true ↦ [] | false ↦ HoldsBinding binding ∷ [] ] ++ held_from (suc number) round rest) (HoldsBinding binding)) (sym top) (inl refl)))
+    (subst (λ b. Among (one_more b (held_by number (Binds binding)) (held_from (suc number) round rest)) (HoldsBinding binding)) (sym same)
+    (subst (λ b. Among (elim b [ true ↦ [] | false ↦ HoldsBinding binding ∷ [] ] ++ held_from (suc number) round rest) (HoldsBinding binding)) (sym top) (inl refl)))
 
 holds_temporary : (number : ℕ) (round : List Enclosing) (list : List Mention) (i : ℕ) → slice_get list i ≡ Some (record { round = round; what = Temporary }) → (n : ℕ) → number + i ≡ n → Among (held_from number round list) (HoldsTemporary n)
 holds_temporary number round [] i e n f = absurd (cc e)
 holds_temporary number round (one ∷ rest) (suc i) e n f = kept (same_round round one.round) (held_by number one.what) (held_from (suc number) round rest) (HoldsTemporary n) (holds_temporary (suc number) round rest i e n (omega (arith, f)))
 holds_temporary number round (one ∷ rest) zero e n f =
     subst (λ x. Among (one_more (same_round round x.round) (held_by number x.what) (held_from (suc number) round rest)) (HoldsTemporary n)) (sym (mention_is e))
-      (subst (λ b. Among (one_more b (HoldsTemporary number ∷ []) (held_from (suc number) round rest)) (HoldsTemporary n)) (sym (round_itself round)) (inl (ap HoldsTemporary (omega (arith, f)))))
+    (subst (λ b. Among (one_more b (HoldsTemporary number ∷ []) (held_from (suc number) round rest)) (HoldsTemporary n)) (sym (round_itself round)) (inl (ap HoldsTemporary (omega (arith, f)))))
   where
     mention_is : Some one ≡ Some (record { round = round; what = Temporary }) → one ≡ record { round = round; what = Temporary }
     mention_is e = cc e
@@ -152,8 +150,8 @@ is_outside at (other ∷ rest) one binding e inner outer h = by h (is_outside at
     this_one : Among (elim (meant one.what) [ Some b ↦ elim (stands_in at one.round && not (stands_in at b.lies)) [ true ↦ b ∷ outside at rest | false ↦ outside at rest ] | None ↦ outside at rest ]) binding
     this_one =
         subst (λ o. Among (elim o [ Some b ↦ elim (stands_in at one.round && not (stands_in at b.lies)) [ true ↦ b ∷ outside at rest | false ↦ outside at rest ] | None ↦ outside at rest ]) binding) (sym e)
-          (subst (λ c. Among (elim (c && not (stands_in at binding.lies)) [ true ↦ binding ∷ outside at rest | false ↦ outside at rest ]) binding) (sym inner)
-            (subst (λ c. Among (elim (true && not c) [ true ↦ binding ∷ outside at rest | false ↦ outside at rest ]) binding) (sym outer) (inl refl)))
+        (subst (λ c. Among (elim (c && not (stands_in at binding.lies)) [ true ↦ binding ∷ outside at rest | false ↦ outside at rest ]) binding) (sym inner)
+        (subst (λ c. Among (elim (true && not c) [ true ↦ binding ∷ outside at rest | false ↦ outside at rest ]) binding) (sym outer) (inl refl)))
 
     by : (other ≡ one) ⊎ Among rest one → (Among rest one → Among (outside at rest) binding) → Among (outside at (other ∷ rest)) binding
     by (inl same) more = subst (λ x. Among (outside at (x ∷ rest)) binding) (sym same) this_one
@@ -182,9 +180,9 @@ distinct_has before (one ∷ rest) binding h = by (not_among one before) refl h 
     by true e (inl same) taken left = inr (one, inl refl, subst (λ b. same_binding b one ≡ true) same (itself one))
     by true e (inr k) taken left = elim (taken k) [
       | inl g ↦ elim g.1 [
-          | inl same ↦ inr (one, inl refl, subst (λ b. same_binding binding b ≡ true) (sym same) g.2)
-          | inr among ↦ inl (g.0, among, g.2)
-        ]
+        | inl same ↦ inr (one, inl refl, subst (λ b. same_binding binding b ≡ true) (sym same) g.2)
+        | inr among ↦ inl (g.0, among, g.2)
+      ]
       | inr g ↦ inr (g.0, inr g.1, g.2)
     ]
     by false e (inl same) taken left = inl (subst (λ b. SameAmong b before) same (came_before one before e))
@@ -269,7 +267,7 @@ placed items round binding false false in_list in_places listed own = by (captur
 binding_held : (items : Tree (t.list t.item)) (high : ℕ) (round : List Enclosing) (what : Mentioned) (binding : Binding) → meant what ≡ Some binding → Among (mentions items) (record { round = round; what = what }) → Descends high round → Known (mentions items) (top_bindings items) round binding → HoldsBindingAt items round binding (bound_place items round binding)
 binding_held items high round what binding e among descends known =
     placed items round binding (role_number binding.role == 1) (is_top binding || not (same_round round binding.lies)) (index_of binding (outer_list items round)) (place_of_binding binding (places items round))
-      (λ k. in_outer_list items round binding (listed known k)) (own known)
+    (λ k. in_outer_list items round binding (listed known k)) (own known)
   where
     listed : Known (mentions items) (top_bindings items) round binding → ((role_number binding.role == 1) ≡ true) ⊎ ((is_top binding || not (same_round round binding.lies)) ≡ true) → SameAmong binding (outer_list items round)
     listed (at_top top lies in_tops) k = top_outer items round what binding e among lies in_tops
@@ -351,6 +349,33 @@ held_is_within items number round (Free name) Unbound h = tt
 held_is_within items number round (Free name) _ h = absurd h
 held_is_within items number round Temporary (Local place) h = past (places items round) place (HoldsTemporary number) h
 held_is_within items number round Temporary _ h = absurd h
+
+same_as_another : (one other third : Binding) → same_binding one third ≡ true → same_binding other third ≡ true → same_binding one other ≡ true
+same_as_another one other third e f = grind arith
+
+same_held : (one other third fourth : Binding) → third ≡ fourth → same_binding one third ≡ true → same_binding other fourth ≡ true → same_binding one other ≡ true
+same_held one other third fourth e f g = same_as_another one other third f (subst (λ b. same_binding other b ≡ true) (sym e) g)
+
+in_one_place : (items : Tree (t.list t.item)) (round : List Enclosing) (one other : Binding) (place : ℕ) → InOwnPlaces items round one place → InOwnPlaces items round other place → same_binding one other ≡ true
+in_one_place items round one other place h g = same_held one other h.0 g.0 (binding_is (sym h.1 ∙ g.1)) h.2 g.2
+  where
+    binding_is : {a b : Binding} → Some (HoldsBinding a) ≡ Some (HoldsBinding b) → a ≡ b
+    binding_is e = cc e
+
+in_one_entry : (items : Tree (t.list t.item)) (round : List Enclosing) (one other : Binding) (place : ℕ) → InOuterList items round one place → InOuterList items round other place → same_binding one other ≡ true
+in_one_entry items round one other place h g = same_held one other h.0 g.0 (binding_is (sym h.1 ∙ g.1)) h.2 g.2
+  where
+    binding_is : {a b : Binding} → Some a ≡ Some b → a ≡ b
+    binding_is e = cc e
+
+-- no place within some functions holds two bindings
+pub one_binding_at : (items : Tree (t.list t.item)) (round : List Enclosing) (one other : Binding) (place : Place) → HoldsBindingAt items round one place → HoldsBindingAt items round other place → same_binding one other ≡ true
+one_binding_at items round one other (Local place) h g = in_one_place items round one other place h.0 g.0
+one_binding_at items round one other (Boxed place) h g = in_one_place items round one other place h.0 g.0
+one_binding_at items round one other (Outer place) h g = in_one_entry items round one other place h g
+one_binding_at items round one other (Import place) h g = in_one_entry items round one other place h g
+one_binding_at items round one other (Global row) h g = absurd h
+one_binding_at items round one other Unbound h g = absurd h
 
 -- the numbers of the functions but the body are those from 1 to below the count, one each
 pub number_has_function : (items : Tree (t.list t.item)) (number : ℕ) → suc number < function_count items → (form : FunctionForm) × (function_at items (suc number) ≡ Some form)

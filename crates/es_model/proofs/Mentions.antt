@@ -1,7 +1,7 @@
 -- What holds of each mention of a module whose functions' places ascend: the functions round it begin
 -- one before the other, the outermost first; and what it means is a name of the module's top, or is
 -- bound in a function round it by another mention, or is the `this` of a function further out.
-use Rattle.std.proofs.Common.{◌≡◌, ℕ, zero, suc, ◌<◌, ◌≤◌, ◌⊎◌, Bool, true, false, ◌||◌, ◌==◌, List, [], ◌∷◌, ◌++◌, Option, Some, None, refl, ap, sym, ◌∙◌, subst, append_assoc, inl, inr, arith}
+use Rattle.std.proofs.Common.{◌≡◌, ℕ, suc, ◌<◌, ◌≤◌, ◌⊎◌, Bool, true, false, ◌||◌, ◌==◌, List, [], ◌∷◌, ◌++◌, Option, Some, None, refl, ap, sym, ◌∙◌, subst, append_assoc, inl, inr, arith}
 use Rattle.es_model.specs.declared.kinds.FunctionKind.{FunctionKind}
 use Rattle.es_model.specs.declared.kinds.FunctionKind.TheVariants as f
 use Rattle.es_model.specs.declared.kinds.MemberKind.{MemberKind}
@@ -10,7 +10,7 @@ use Rattle.es_model.specs.declared.names.Identifier.{Identifier}
 use Rattle.es_model.specs.Tokens.{same_text}
 use Rattle.es_model.specs.Tree as t
 use Rattle.es_model.specs.Tree.{Tree, Text}
-use Rattle.es_model.specs.Functions.{FunctionForm, Written, functions, inner, generated, writes_constructor}
+use Rattle.es_model.specs.Functions.{FunctionForm, Written, functions, generated, writes_constructor}
 use Rattle.es_model.specs.SyntaxLaws.{place_of_function, FunctionsAscendFrom}
 use Rattle.es_model.specs.Scopes.{Enclosing, Role, Top, Imported, Inner, Own, Binding, Setting, Gathers, gather, find_binding, bind, within, in_body_of_loop, in_cases, in_function, own_name, named, function_name, class_name, given_names, default_names, declarator_names, declared_by, declared, declared_in_cases, declared_by_head, declared_in, declared_by_body, declared_by_catch, top_declared, imports, top_bindings, top_setting}
 use Rattle.es_model.specs.FreeNames.{Mentioned, Binds, Refers, Free, Temporary, Mention, mention, binds, refers, receiver, in_arrow, is_top, role_number, mentions_at, mentions}
@@ -299,22 +299,22 @@ member_form at fixed kind key value (t.FunctionOf place name own parameters body
     let fs : List FunctionForm = form ∷ functions key ++ (functions value ++ functions body) in
     let behind : FunctionsAscendFrom low fs → FunctionsAscendFrom (suc place) (functions value ++ functions body) = λ ascend. rest_of (suc place) (functions key) (functions value ++ functions body) ascend.1 in
     both_of {gs = fs} {hs = fs} (λ ascend. (tt, ascend)) (member_node g at fixed kind key value (t.present (t.FunctionOf place name own parameters body)) fits)
-      (both_of {gs = fs} {hs = fs} (λ ascend. (lowered low (suc place) (functions key) (omega (arith, ascend.0)) (front (suc place) (functions key) (functions value ++ functions body) ascend.1), ascend)) (keys low g fits)
-        (both_of {gs = form ∷ functions body} {hs = fs} (λ ascend. (lowered low (suc place) (functions value) (omega (arith, ascend.0)) (front (suc place) (functions value) (functions body) (behind ascend)), (ascend.0, rest_of (suc place) (functions value) (functions body) (behind ascend))))
-          (values low g fits) (bodies low g fits)))
+    (both_of {gs = fs} {hs = fs} (λ ascend. (lowered low (suc place) (functions key) (omega (arith, ascend.0)) (front (suc place) (functions key) (functions value ++ functions body) ascend.1), ascend)) (keys low g fits)
+    (both_of {gs = form ∷ functions body} {hs = fs} (λ ascend. (lowered low (suc place) (functions value) (omega (arith, ascend.0)) (front (suc place) (functions value) (functions body) (behind ascend)), (ascend.0, rest_of (suc place) (functions value) (functions body) (behind ascend))))
+    (values low g fits) (bodies low g fits)))
 
 function_form : {all : List Mention} {tops : List Binding} (at : ℕ) (name : Option Identifier) (kind : FunctionKind) (parameters : List Identifier) (body : Tree t.body) → IsGood all tops body → IsGood all tops (t.FunctionOf at name kind parameters body)
 unfolding gather functions
 function_form {all} {tops} at name kind parameters body body_good low g fits = record {
   each = λ ascend part.
-    let h : Setting = in_function at kind parameters body g in
-    let declares : Declares all h.round h.sees (parameters ++ declared_by_body body) = λ one k binding e. part _ (elim (among_either parameters (declared_by_body body) one k) [
-      | inl k ↦ among_front (binds h parameters) (gather walk h body) _ (names_bound h parameters one k binding e)
-      | inr k ↦ among_rest (binds h parameters) (gather walk h body) _ (body_bound h body one k binding e)
-    ]) in
-    let sees : Sees all tops h.round h.sees = seen Inner h.round (parameters ++ declared_by_body body) g.sees refl declares (λ name binding e. deeper (record { at = at; kind = kind }) g.round binding (fits.1 name binding e)) in
-    let inner_fits : Fits all tops (suc at) h = ((omega arith, raised low at g.round ascend.0 fits.0), sees) in
-    (both (binds_good h parameters inner_fits) (body_good (suc at) h inner_fits)).each ascend.1 part;
+      let h : Setting = in_function at kind parameters body g in
+      let declares : Declares all h.round h.sees (parameters ++ declared_by_body body) = λ one k binding e. part _ (elim (among_either parameters (declared_by_body body) one k) [
+        | inl k ↦ among_front (binds h parameters) (gather walk h body) _ (names_bound h parameters one k binding e)
+        | inr k ↦ among_rest (binds h parameters) (gather walk h body) _ (body_bound h body one k binding e)
+      ]) in
+      let sees : Sees all tops h.round h.sees = seen Inner h.round (parameters ++ declared_by_body body) g.sees refl declares (λ name binding e. deeper (record { at = at; kind = kind }) g.round binding (fits.1 name binding e)) in
+      let inner_fits : Fits all tops (suc at) h = ((omega arith, raised low at g.round ascend.0 fits.0), sees) in
+      (both (binds_good h parameters inner_fits) (body_good (suc at) h inner_fits)).each ascend.1 part;
 }
 
 expression_function : {all : List Mention} {tops : List Binding} (function : Tree t.function) → IsGood all tops function → IsGood all tops (t.Function function)
@@ -359,14 +359,14 @@ catch_form caught catch catch_good low g fits = inside (λ part.
     both (binds_good h (named caught) inner_fits) (catch_good low h inner_fits))
 
 regroup : {all : List Mention} {tops : List Binding} {low : ℕ} {fs : List FunctionForm} (k l m : List Mention) → Good all tops low ((k ++ l) ++ m) fs → Good all tops low (k ++ (l ++ m)) fs
-regroup {all} {tops} {low} {fs} k l m good = subst (λ list. Good all tops low list fs) (append_assoc k l m) good
+regroup {all} {tops} {low} {fs} k l m x = subst (λ list. Good all tops low list fs) (append_assoc k l m) x
 
 try_form : {all : List Mention} {tops : List Binding} (block : Tree (t.list t.statement)) (caught : Option Identifier) (catch finally : Tree (t.option (t.list t.statement))) → IsGood all tops block → IsGood all tops catch → IsGood all tops finally → IsGood all tops (t.Try block caught catch finally)
 unfolding gather functions
 try_form block caught catch finally block_good catch_good finally_good low g fits =
     let h : Setting = within Inner (declared_by_catch caught catch) g in
     both (try_node g block caught catch finally fits) (both (block_form block block_good low g fits)
-      (regroup (binds h (named caught)) (gather walk h catch) _ (both (catch_form caught catch catch_good low g fits) (finally_form finally finally_good low g fits))))
+    (regroup (binds h (named caught)) (gather walk h catch) _ (both (catch_form caught catch catch_good low g fits) (finally_form finally finally_good low g fits))))
 
 switch_form : {all : List Mention} {tops : List Binding} (value : Tree t.expression) (cases : Tree (t.list t.case)) → IsGood all tops value → IsGood all tops cases → IsGood all tops (t.Switch value cases)
 unfolding gather functions
@@ -478,8 +478,8 @@ top_sees : (all : List Mention) (items : Tree (t.list t.item)) → Sees all (top
 top_sees all items name binding e =
     let among : Among (top_bindings items) binding = found_among name (top_bindings items) binding e in
     elim (among_either (bind Top [] (top_declared items)) (bind Imported [] (imports items)) binding among) [
-      | inl h ↦ let is = bound_as Top [] (top_declared items) binding h in at_top (top_role Top binding refl is.0) (sym is.1) among
-      | inr h ↦ let is = bound_as Imported [] (imports items) binding h in at_top (top_role Imported binding refl is.0) (sym is.1) among
+      | inl h ↦ let such = bound_as Top [] (top_declared items) binding h in at_top (top_role Top binding refl such.0) (sym such.1) among
+      | inr h ↦ let such = bound_as Imported [] (imports items) binding h in at_top (top_role Imported binding refl such.0) (sym such.1) among
     ]
 
 pub mentions_sound : (items : Tree (t.list t.item)) → FunctionsAscendFrom 0 (functions items) → (one : Mention) → Among (mentions items) one → Sound (mentions items) (top_bindings items) one
