@@ -9,7 +9,7 @@ use Rattle.js_value.specs.Case.{are_keys, texts}
 use Rattle.js_value.proofs.Tables.{keys_when_ascii, texts-ascii}
 use Rattle.es_model.specs.Tokens.{same_text, place_from, keywords, signs, ascending_signs}
 
-same_text-true : (a b : List ℕ) → same_text a b ≡ true → a ≡ b
+pub same_text-true : (a b : List ℕ) → same_text a b ≡ true → a ≡ b
 same_text-true [] [] h = refl
 same_text-true [] (d ∷ b) h = cc
 same_text-true (c ∷ a) [] h = cc
@@ -19,11 +19,11 @@ same_text-true (c ∷ a) (d ∷ b) h =
     cc
 
 -- what stands at a place that was found, counted from `n`
-abbrev StandsFrom : ℕ → List (List ℕ) → List ℕ → Option ℕ → Type 0
+abbrev pub StandsFrom : ℕ → List (List ℕ) → List ℕ → Option ℕ → Type 0
 StandsFrom n list text None = Unit {0}
 StandsFrom n list text (Some place) = (i : ℕ) × (place ≡ n + i) × (slice_get list i ≡ Some text)
 
-stands : (n : ℕ) (list : List (List ℕ)) (text : List ℕ) → StandsFrom n list text (place_from n list text)
+pub stands : (n : ℕ) (list : List (List ℕ)) (text : List ℕ) → StandsFrom n list text (place_from n list text)
 stands n [] text = tt
 stands n (row ∷ list) text = here (same_text row text) refl (stands (suc n) list text)
   where

@@ -27,18 +27,18 @@ pub record Mention : Type 0 where
   pub round : List Enclosing
   pub what : Mentioned
 
-abbrev mention : Setting → Mentioned → List Mention
+abbrev pub mention : Setting → Mentioned → List Mention
 mention g what = record { round = g.round; what = what } ∷ []
 
-abbrev binds : Setting → List Identifier → List Mention
+abbrev pub binds : Setting → List Identifier → List Mention
 binds g [] = []
 binds g (one ∷ names) = elim (find_binding one.name g.sees) [ Some binding ↦ mention g (Binds binding) ++ binds g names | None ↦ binds g names ]
 
-abbrev refers : Setting → Text → List Mention
+abbrev pub refers : Setting → Text → List Mention
 refers g name = elim (find_binding name g.sees) [ Some binding ↦ mention g (Refers binding) | None ↦ mention g (Free name) ]
 
 -- The `this` of a place: that of the innermost function that is no arrow, or of the module.
-abbrev receiver : List Enclosing → Binding
+abbrev pub receiver : List Enclosing → Binding
 receiver [] = record { name = []; at = 0; role = Receiver; lies = [] }
 receiver (one ∷ rest) = receiver_of one.kind (record { name = []; at = one.at; role = Receiver; lies = one ∷ rest }) (receiver rest)
   where
@@ -46,7 +46,7 @@ receiver (one ∷ rest) = receiver_of one.kind (record { name = []; at = one.at;
     receiver_of f.Arrow own outer = outer
     receiver_of _ own outer = own
 
-abbrev in_arrow : List Enclosing → Bool
+abbrev pub in_arrow : List Enclosing → Bool
 in_arrow [] = false
 in_arrow (one ∷ rest) = is_arrow one.kind
   where
@@ -78,7 +78,7 @@ mentions items = gather (record { at_node = λ s g tree. mentions_at {s = s} g t
 
 -- One binding is another: by what it is, where its name stands, and how deep it lies.
 
-abbrev role_number : Role → ℕ
+abbrev pub role_number : Role → ℕ
 role_number Top = 0
 role_number Imported = 1
 role_number Inner = 2
@@ -103,12 +103,12 @@ meant (Free name) = None
 meant Temporary = None
 
 -- the bindings that mentions mean, each at its first mention
-abbrev not_among : Binding → List Binding → Bool
+abbrev pub not_among : Binding → List Binding → Bool
 not_among binding [] = true
 not_among binding (one ∷ rest) = not (same_binding binding one) && not_among binding rest
 
 -- the bindings outside the function at a place that mentions in it mean
-abbrev outside : ℕ → List Mention → List Binding
+abbrev pub outside : ℕ → List Mention → List Binding
 outside at [] = []
 outside at (one ∷ rest) =
     elim (meant one.what) [
@@ -116,7 +116,7 @@ outside at (one ∷ rest) =
       | None ↦ outside at rest
     ]
 
-abbrev distinct_after : List Binding → List Binding → List Binding
+abbrev pub distinct_after : List Binding → List Binding → List Binding
 distinct_after before [] = []
 distinct_after before (one ∷ rest) = elim (not_among one before) [ true ↦ one ∷ distinct_after (one ∷ before) rest | false ↦ distinct_after before rest ]
 
@@ -147,19 +147,19 @@ pub data Held : Type 0 where
   HoldsBinding : Binding → Held
   HoldsTemporary : ℕ → Held
 
-abbrev same_round : List Enclosing → List Enclosing → Bool
+abbrev pub same_round : List Enclosing → List Enclosing → Bool
 same_round [] [] = true
 same_round (a ∷ rest) (b ∷ others) = (a.at == b.at) && (length rest == length others)
 same_round _ _ = false
 
-abbrev held_by : ℕ → Mentioned → List Held
+abbrev pub held_by : ℕ → Mentioned → List Held
 held_by number (Binds binding) = elim (is_top binding) [ true ↦ [] | false ↦ HoldsBinding binding ∷ [] ]
 held_by number (Refers binding) = []
 held_by number (Free name) = []
 held_by number Temporary = HoldsTemporary number ∷ []
 
 -- what the function round a place holds, of mentions that are numbered from `number`
-abbrev held_from : ℕ → List Enclosing → List Mention → List Held
+abbrev pub held_from : ℕ → List Enclosing → List Mention → List Held
 held_from number round [] = []
 held_from number round (one ∷ rest) =
     elim (same_round round one.round) [ true ↦ held_by number one.what ++ held_from (suc number) round rest | false ↦ held_from (suc number) round rest ]
@@ -170,7 +170,7 @@ parameters_at at [] = 0
 parameters_at at (Generated class ∷ rest) = parameters_at at rest
 parameters_at at (Written (t.FunctionOf place name kind parameters body) ∷ rest) = elim (place == at) [ true ↦ length parameters | false ↦ parameters_at at rest ]
 
-abbrev parameter_count : Tree (t.list t.item) → List Enclosing → ℕ
+abbrev pub parameter_count : Tree (t.list t.item) → List Enclosing → ℕ
 parameter_count items [] = 0
 parameter_count items (one ∷ rest) = parameters_at one.at (functions items)
 
@@ -178,7 +178,7 @@ parameter_count items (one ∷ rest) = parameters_at one.at (functions items)
 abbrev pub this_captured : Tree (t.list t.item) → List Enclosing → Bool
 this_captured items round = not (in_arrow round) && captured items (receiver round)
 
-abbrev this_cell_of : Bool → List Enclosing → List Held
+abbrev pub this_cell_of : Bool → List Enclosing → List Held
 this_cell_of true round = HoldsBinding (receiver round) ∷ []
 this_cell_of false round = []
 
@@ -210,12 +210,12 @@ global_names =
     codes "SyntaxError" ∷ codes "TypeError" ∷ codes "Boolean" ∷ codes "Number" ∷ codes "Math" ∷ codes "Promise" ∷
     codes "parseInt" ∷ codes "String" ∷ codes "Array" ∷ []
 
-abbrev global_place : Option ℕ → Place
+abbrev pub global_place : Option ℕ → Place
 global_place None = Unbound
 global_place (Some row) = Global row
 
 -- the place that a binding of a function has there
-abbrev own_place : Bool → ℕ → Place
+abbrev pub own_place : Bool → ℕ → Place
 own_place true place = Boxed place
 own_place false place = Local place
 

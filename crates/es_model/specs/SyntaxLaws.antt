@@ -1,10 +1,15 @@
 -- What the laws of tokens and trees are stated in.
-use Rattle.std.specs.Prelude.{◌≡◌, ℕ, suc, ◌+◌, ◌≤◌, Bool, true, false, ◌||◌, List, [], ◌∷◌}
+use Rattle.std.specs.Prelude.{◌≡◌, ℕ, suc, ◌+◌, ◌<◌, ◌≤◌, Bool, true, false, ◌||◌, List, [], ◌∷◌, length, slice_get, Some}
 use Rattle.es_model.specs.declared.token.Token.{Token}
 use Rattle.es_model.specs.declared.token.TokenKind.{TokenKind}
+use Rattle.es_model.specs.declared.place.Place.{Place}
+use Rattle.es_model.specs.declared.place.Place.TheVariants.{Local, Boxed, Outer, Import, Global, Unbound}
 use Rattle.es_model.specs.Tree as t
+use Rattle.es_model.specs.Tree.{Tree, Text}
 use Rattle.es_model.specs.Readings.{same_kind, is_end, word}
 use Rattle.es_model.specs.Functions.{FunctionForm, Written, Generated}
+use Rattle.es_model.specs.Scopes.{Enclosing, Binding}
+use Rattle.es_model.specs.FreeNames.{Mentioned, Binds, Refers, Free, Temporary, same_binding, captured, outer_list, HoldsBinding, HoldsTemporary, places, global_names}
 
 -- The places of tokens ascend strictly, and none is below `low`.
 abbrev pub AscendFrom : ℕ → List Token → Type 0
@@ -46,3 +51,44 @@ openings (token ∷ tokens) = one_if (opens token.kind) + openings tokens
 abbrev pub closings : List Token → ℕ
 closings [] = 0
 closings (token ∷ tokens) = one_if (closes token.kind) + closings tokens
+
+-- Where what a mention means is held.
+
+-- An entry of a function's outer list, and a place of its own, hold a binding.
+abbrev pub InOuterList : Tree (t.list t.item) → List Enclosing → Binding → ℕ → Type 0
+InOuterList items round binding place = (other : Binding) × (slice_get (outer_list items round) place ≡ Some other) × (same_binding binding other ≡ true)
+
+abbrev pub InOwnPlaces : Tree (t.list t.item) → List Enclosing → Binding → ℕ → Type 0
+InOwnPlaces items round binding place = (other : Binding) × (slice_get (places items round) place ≡ Some (HoldsBinding other)) × (same_binding binding other ≡ true)
+
+-- A place within some functions holds a binding: in a box exactly where the binding is captured.
+abbrev pub HoldsBindingAt : Tree (t.list t.item) → List Enclosing → Binding → Place → Type 0
+HoldsBindingAt items round binding (Local place) = InOwnPlaces items round binding place × (captured items binding ≡ false)
+HoldsBindingAt items round binding (Boxed place) = InOwnPlaces items round binding place × (captured items binding ≡ true)
+HoldsBindingAt items round binding (Outer place) = InOuterList items round binding place
+HoldsBindingAt items round binding (Import place) = InOuterList items round binding place
+HoldsBindingAt items round binding (Global row) = ⊥
+HoldsBindingAt items round binding Unbound = ⊥
+
+-- A name that nothing binds is the global of a row, or no global at all.
+abbrev pub IsGlobalAt : Text → Place → Type 0
+IsGlobalAt name (Global row) = slice_get global_names row ≡ Some name
+IsGlobalAt name Unbound = (row : ℕ) → slice_get global_names row ≡ Some name → ⊥
+IsGlobalAt name _ = ⊥
+
+-- What the mention of a number means is held at a place.
+abbrev pub HeldAt : Tree (t.list t.item) → ℕ → List Enclosing → Mentioned → Place → Type 0
+HeldAt items number round (Binds binding) place = HoldsBindingAt items round binding place
+HeldAt items number round (Refers binding) place = HoldsBindingAt items round binding place
+HeldAt items number round (Free name) place = IsGlobalAt name place
+HeldAt items number round Temporary (Local place) = slice_get (places items round) place ≡ Some (HoldsTemporary number)
+HeldAt items number round Temporary _ = ⊥
+
+-- A place is one of the function round it, an entry of its outer list, or a global's row.
+abbrev pub IsWithin : Tree (t.list t.item) → List Enclosing → Place → Type 0
+IsWithin items round (Local place) = place < length (places items round)
+IsWithin items round (Boxed place) = place < length (places items round)
+IsWithin items round (Outer place) = place < length (outer_list items round)
+IsWithin items round (Import place) = place < length (outer_list items round)
+IsWithin items round (Global row) = row < length global_names
+IsWithin items round Unbound = Unit {0}
