@@ -3,8 +3,8 @@
 
     python3 tools/trees.py      (at the top of the repository)
 
-Written: crates/es_model/specs/Tree.antt (the pure trees and their size), Codes.antt (that a tree's
-code gives it back) and View.antt (what the types of src/ are as pure trees).
+Written in crates/es_model/specs: Tree.antt (the pure trees and their size), Codes.antt (that a tree's
+code gives it back), View.antt and ModuleView.antt (what the types of src/ are as pure trees).
 
 A row is a constructor of the pure trees, the Rust variant that it shows, and its fields in the
 order of the Rust type. A field's type is a sort, 'L:' a list of it, 'O:' an option of it, or plain
@@ -180,7 +180,7 @@ def uses():
 
 
 def tree_file():
-    out = HEAD + '-- Syntax trees as plain data: one family, indexed by the sort of tree.\n'
+    out = HEAD + '-- Syntax trees as plain data (ECMA-262, 13 to 16): one family, indexed by the sort of tree.\n'
     out += '-- A place (ℕ) is the byte of the text at which the thing begins, from 0.\n'
     out += 'use Rattle.std.specs.Prelude.{ℕ, ◌+◌, Bool, List, [], ◌∷◌, Option}\nuse lib.IntN.{ℤ}\n' + uses()
     out += '\n-- a list of 16-bit units\nabbrev pub Text : Type 0\nText = List ℕ\n\npub data Sort : Type 0 where\n'

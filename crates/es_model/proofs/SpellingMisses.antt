@@ -163,6 +163,11 @@ throw_before_line : (value : Tree t.expression) (mark : Semi) (kind : TokenKind)
 unfolding Spells
 throw_before_line value mark kind rest to h = let e : true ≡ false = subst (First (λ one. one.line_before ≡ false)) (sym h.1.1) h.2.1.0 in cc e
 
+-- a line break between `return` and its value
+return_before_line : (value : Tree t.expression) (mark : Semi) (kind : TokenKind) (rest to : Tokens) → Spells (t.Return 0 (t.present value) mark) (token (k.Keyword 32) 0 ∷ lined kind 7 ∷ rest) to → ⊥
+unfolding Spells
+return_before_line value mark kind rest to h = let e : true ≡ false = subst (First (λ one. one.line_before ≡ false)) (sym h.1.1.1) h.1.2.1.0 in cc e
+
 -- `default;` as a case, with no colon
 default_without_colon : (body : Tree (t.list t.statement)) (rest to : Tokens) → Spells (t.CaseOf t.absent body) (token (k.Keyword 8) 0 ∷ token (k.Sign 6) 7 ∷ rest) to → ⊥
 unfolding Spells word

@@ -166,6 +166,11 @@ returned : spells (t.more (t.Plain (t.FunctionStatement (t.FunctionOf 0 (Some (n
 unfolding Spells word
 returned = (_, refl, (_, (refl, (_, (refl, refl), (_, ((refl, refl), refl), (_, (refl, refl), (_, refl, (_, (refl, refl), (_, (refl, refl), (_, (_, (refl, (_, (refl, refl), (refl, refl))), (_, (_, (refl, (refl, refl)), (refl, refl)), refl)), (refl, refl))))))))), refl))
 
+-- function f() { return 1; }
+returned_value : spells (t.more (t.Plain (t.FunctionStatement (t.FunctionOf 0 (Some (named_at 9 (codes "f"))) f.Plain [] (t.BodyStatements (t.more (t.Return 15 (t.present (t.Number (pos 1))) semi.Written) t.none))))) t.none) (token (k.Keyword 18) 0 ∷ token (k.Name (codes "f")) 9 ∷ token (k.Sign 2) 10 ∷ token (k.Sign 3) 11 ∷ token (k.Sign 0) 13 ∷ token (k.Keyword 32) 15 ∷ token (k.Number (pos 1)) 22 ∷ token (k.Sign 6) 23 ∷ token (k.Sign 1) 25 ∷ token k.End 26 ∷ [])
+unfolding Spells word
+returned_value = (_, refl, (_, (refl, (_, (refl, refl), (_, ((refl, refl), refl), (_, (refl, refl), (_, refl, (_, (refl, refl), (_, (refl, refl), (_, (_, (refl, (_, (refl, refl), (_, (refl, (refl, refl)), (refl, refl)))), refl), (refl, refl))))))))), refl))
+
 -- import "m"; import a from "m"; import {b as c, d,} from "m"; import e, {default as f} from "m"; import g, {} from "m";
 imports : spells (t.more (t.Import (codes "m") [] semi.Written) (t.more (t.Import (codes "m") ((pair_of (named_at 19 (codes "default")) (named_at 19 (codes "a"))) ∷ []) semi.Written) (t.more (t.Import (codes "m") ((pair_of (named_at 39 (codes "b")) (named_at 44 (codes "c"))) ∷ (pair_of (named_at 47 (codes "d")) (named_at 47 (codes "d"))) ∷ []) semi.Written) (t.more (t.Import (codes "m") ((pair_of (named_at 68 (codes "default")) (named_at 68 (codes "e"))) ∷ (pair_of (named_at 72 (codes "default")) (named_at 83 (codes "f"))) ∷ []) semi.Written) (t.more (t.Import (codes "m") ((pair_of (named_at 103 (codes "default")) (named_at 103 (codes "g"))) ∷ []) semi.Written) t.none))))) (token (k.Keyword 21) 0 ∷ token (k.String (codes "m")) 7 ∷ token (k.Sign 6) 10 ∷ token (k.Keyword 21) 12 ∷ token (k.Name (codes "a")) 19 ∷ token (k.Name (codes "from")) 21 ∷ token (k.String (codes "m")) 26 ∷ token (k.Sign 6) 29 ∷ token (k.Keyword 21) 31 ∷ token (k.Sign 0) 38 ∷ token (k.Name (codes "b")) 39 ∷ token (k.Name (codes "as")) 41 ∷ token (k.Name (codes "c")) 44 ∷ token (k.Sign 7) 45 ∷ token (k.Name (codes "d")) 47 ∷ token (k.Sign 7) 48 ∷ token (k.Sign 1) 49 ∷ token (k.Name (codes "from")) 51 ∷ token (k.String (codes "m")) 56 ∷ token (k.Sign 6) 59 ∷ token (k.Keyword 21) 61 ∷ token (k.Name (codes "e")) 68 ∷ token (k.Sign 7) 69 ∷ token (k.Sign 0) 71 ∷ token (k.Keyword 8) 72 ∷ token (k.Name (codes "as")) 80 ∷ token (k.Name (codes "f")) 83 ∷ token (k.Sign 1) 84 ∷ token (k.Name (codes "from")) 86 ∷ token (k.String (codes "m")) 91 ∷ token (k.Sign 6) 94 ∷ token (k.Keyword 21) 96 ∷ token (k.Name (codes "g")) 103 ∷ token (k.Sign 7) 104 ∷ token (k.Sign 0) 106 ∷ token (k.Sign 1) 107 ∷ token (k.Name (codes "from")) 109 ∷ token (k.String (codes "m")) 114 ∷ token (k.Sign 6) 117 ∷ token k.End 118 ∷ [])
 unfolding Spells word

@@ -1,5 +1,5 @@
--- The two counts of a tree together: its nesting and the number of its functions, each 4294967295 where
--- it is more.
+-- The two counts of a tree together (own): its nesting and the number of its functions, each 4294967295
+-- where it is more.
 use Rattle.std.specs.Prelude.{suc, ◌+◌, max, min, Bool, true, false}
 use Rattle.es_model.specs.declared.measure.Counts.{Counts}
 use Rattle.es_model.specs.Tree as t

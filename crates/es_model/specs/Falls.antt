@@ -1,4 +1,4 @@
--- Each child of an expression or a statement is smaller than it, by `tree_size`.
+-- Each child of an expression or a statement is smaller than it, by `tree_size` (own).
 use Rattle.std.specs.Prelude.{ℕ, ◌+◌, ◌≤◌, Bool, List, [], ◌∷◌, map, Option, Some, None, Box}
 use Rattle.std.specs.declared.alloc.Global.{Global}
 use Rattle.std.proofs.Common.{arith}

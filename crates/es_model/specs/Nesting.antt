@@ -1,4 +1,4 @@
--- How deep a tree is nested, in statements, expressions, functions and classes.
+-- How deep a tree is nested, in statements, expressions, functions and classes (own rule).
 use Rattle.std.specs.Prelude.{ℕ, suc, max}
 use Rattle.es_model.specs.Tree as t
 use Rattle.es_model.specs.Tree.{Tree}

@@ -1,5 +1,5 @@
--- The words in which the grammar is written: a reading says which tokens a form takes, by the tokens
--- before it is read and those after.
+-- The words in which the grammar is written (for the notation of ECMA-262, 5.1.5): a reading says which
+-- tokens a form takes, by the tokens before it is read and those after.
 use Rattle.std.specs.Prelude.{◌≡◌, ℕ, Bool, true, false, not, ◌&&◌, ◌||◌, ◌==◌, ◌⊎◌, List, [], ◌∷◌, codes, slice_get, Option, Some, None}
 use Rattle.std.specs.List.{list_any}
 use Prim.Native.String.{String}

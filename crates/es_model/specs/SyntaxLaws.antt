@@ -1,4 +1,4 @@
--- What the laws of tokens and trees are stated in.
+-- What the laws of tokens and trees are stated in (own).
 use Rattle.std.specs.Prelude.{◌≡◌, ℕ, suc, ◌+◌, ◌<◌, ◌≤◌, Bool, true, false, ◌||◌, List, [], ◌∷◌, length, slice_get, Some}
 use Rattle.es_model.specs.declared.token.Token.{Token}
 use Rattle.es_model.specs.declared.token.TokenKind.{TokenKind}

@@ -15,7 +15,7 @@ use std::io::ErrorKind;
 use std::process::ExitCode;
 use std::{env, io};
 use task::{Layer, Task};
-use xs_base::{Files, RealFiles, RealSink, Sink};
+use xs_base::{Files, RealFiles, RealSink, Sink, WriteFault};
 
 /// The words behind the program's name.
 fn words(rt: &HostRuntime) -> io::Result<Vec<String>> {
@@ -66,6 +66,13 @@ fn count(alloc: Global, layer: Layer, text: &[u8], runs: u32) -> Option<usize>
     Some(count)
 }
 
+/// Writes a number as a line. Nothing is written behind a write that failed.
+fn write_count<O: Sink>(count: usize, out: &mut O) -> Result<(), WriteFault> {
+    let mut digits = itoa::Buffer::new();
+    out.write(digits.format(count).as_bytes())?;
+    out.write(b"\n")
+}
+
 /// Does a task, and writes the number of tokens or items. The answer is the program's status: 1 where the file can't
 /// be read, the text has a fault or the output fails.
 fn run<F: Files, O: Sink>(alloc: Global, task: &Task, files: &mut F, out: &mut O) -> u8 {
@@ -75,9 +82,7 @@ fn run<F: Files, O: Sink>(alloc: Global, task: &Task, files: &mut F, out: &mut O
     let Some(count) = count(alloc, task.layer, text.as_slice(), task.runs) else {
         return 1;
     };
-    let mut digits = itoa::Buffer::new();
-    let written = out.write(digits.format(count).as_bytes());
-    match written.and(out.write(b"\n")) {
+    match write_count(count, out) {
         Ok(()) => 0,
         Err(_) => 1,
     }

@@ -37,6 +37,8 @@ impl Model for FileTable {
 }
 
 impl FileTable {
+    /// An empty table, with all the memory that it ever takes: so many bytes for names and contents together, and so
+    /// many names. The one error is want of memory.
     pub fn new(alloc: Global, room: usize, names: usize) -> Result<FileTable, AllocError>
         ensures { IfOk result (λ table. table ≡ record { contents = map.empty; room = room; names = names }) }
     {
@@ -48,6 +50,7 @@ impl FileTable {
         })
     }
 
+    /// The content that a name holds; None where it holds none.
     pub fn get(&self, name: &[u8]) -> Option<&[u8]>
         ensures { option_copied result ≡ held self.now.contents name.now }
     {
@@ -57,6 +60,8 @@ impl FileTable {
         Some(content)
     }
 
+    /// Whether a name may hold a content, in place of what it holds: there is room for its bytes, and for one more name
+    /// where it holds nothing.
     pub fn fits(&self, name: &[u8], content: &[u8]) -> bool
         ensures { result ≡ fits self.now name.now content.now }
     {
@@ -67,6 +72,7 @@ impl FileTable {
         }
     }
 
+    /// Has a name hold a content, in place of what it held. Takes no memory.
     pub fn put(&mut self, name: &[u8], content: &[u8])
         requires { IsTrue (fits self.old name.now content.now) }
         ensures { self.new ≡ record self.old { contents = map.insert self.old.contents name.now content.now } }

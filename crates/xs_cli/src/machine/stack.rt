@@ -43,12 +43,14 @@ impl Stack {
         })
     }
 
+    /// Whether it holds three values, the most that it has room for.
     pub fn is_full(&self) -> bool
         ensures { IsTrue result ↔ (3 ≤ length self.now) }
     {
         self.values.len() >= MOST
     }
 
+    /// Puts a value on top. Takes no memory.
     pub fn push(&mut self, value: Value)
         requires { length self.old < 3 }
         ensures { self.new ≡ value ∷ self.old }
@@ -56,6 +58,7 @@ impl Stack {
         self.values.push_reserved(value);
     }
 
+    /// Takes the value on top; None where there is none.
     pub fn pop(&mut self) -> Option<Value>
         ensures { MatchOption result ((self.old ≡ []) × (self.new ≡ [])) (λ value. self.old ≡ value ∷ self.new) }
     {
