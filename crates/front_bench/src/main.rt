@@ -94,7 +94,14 @@ fn main(rt: HostRuntime) -> ExitCode {
     let mut err = RealSink::new(rt.stderr());
     let words = match words(&rt) {
         Ok(words) => words,
-        Err(_) => Vec::new(rt.alloc()),
+        Err(error) => {
+            if error.kind() == ErrorKind::OutOfMemory {
+                let _ = err.write(b"no memory\n");
+                return ExitCode::from(7);
+            }
+            // A word that is no text is in no task.
+            Vec::new(rt.alloc())
+        }
     };
     match task::task_of(&words) {
         Some(task) => ExitCode::from(run(rt.alloc(), &task, &mut files, &mut out)),
