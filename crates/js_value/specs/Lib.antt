@@ -8,4 +8,5 @@ pub mod Order
 pub mod Store
 pub mod Value
 pub mod WellFormed
+pub mod Job
 pub mod Case

@@ -3,6 +3,7 @@
 
 mod arithmetic;
 mod case;
+mod counts;
 mod literals;
 mod numerals;
 #[cfg(test)]
@@ -12,6 +13,7 @@ mod words;
 
 pub use arithmetic::{add, div, mul, neg, pow, rem, sub};
 pub use case::Case;
+pub use counts::{Full, Room};
 pub use literals::{index_of_key, number_of_units};
 pub use numerals::{text_of_number, text_of_number_radix};
 pub use text::{Units, scalar_value, sequence_length, utf8_piece};
