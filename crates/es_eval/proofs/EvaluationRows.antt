@@ -1,13 +1,13 @@
 -- Programs whose evaluation computes.
 use Rattle.std.proofs.Common.{◌≡◌, ℕ, List, [], ◌∷◌, refl, codes}
 use Rattle.js_value.specs.Text.{piece, utf8, encoded, character_length}
-use Rattle.es_model.specs.Host.{cut}
+use Rattle.es_ops.specs.Host.{cut}
 use Rattle.es_model.specs.Tree as t
 use Rattle.es_model.specs.Tree.{Tree}
 use Rattle.es_model.specs.declared.names.Identifier.{Identifier}
 use Rattle.es_model.specs.declared.kinds.Semi.TheVariants.{Written}
-use Rattle.es_model.specs.Evaluation.{meaning, find, evaluator}
-use Rattle.es_model.specs.Boot.{top_level, run, told}
+use Rattle.es_eval.specs.Evaluation.{meaning, find, evaluator}
+use Rattle.es_eval.specs.Boot.{top_level, run, told}
 
 -- import { print } from "host"; print("hi");
 identifier : ℕ → List ℕ → Identifier

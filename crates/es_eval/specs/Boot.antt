@@ -3,10 +3,10 @@ use Rattle.std.specs.Prelude.{ℕ, Bool, true, false, List, [], ◌∷◌, ◌++
 use Rattle.std.specs.Str.{bytes_eq}
 use Rattle.es_model.specs.Tree.{Text}
 use Rattle.es_model.specs.declared.names.Pair.{Pair}
-use Rattle.es_model.specs.Host.{written, line_events}
+use Rattle.es_ops.specs.Host.{written, line_events}
 use Rattle.es_model.specs.Tree as t
 use Rattle.es_model.specs.Tree.{Tree}
-use Rattle.es_model.specs.Evaluation.{Value, Undefined, String, Function, HostFunction, Print, Read, Limit, Budget, Depth, State, Throw, Stop, Unbuilt, Completed, Normal, Ended, Environment, HostCell, meaning, evaluator}
+use Rattle.es_eval.specs.Evaluation.{Value, Undefined, String, Function, HostFunction, Print, Read, Limit, Budget, Depth, State, Throw, Stop, Unbuilt, Completed, Normal, Ended, Environment, HostCell, meaning, evaluator}
 
 -- ---- imports of the module `host`
 

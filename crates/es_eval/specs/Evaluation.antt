@@ -3,8 +3,8 @@
 use Rattle.std.specs.Prelude.{ℕ, zero, suc, ◌+◌, Bool, true, false, List, [], ◌∷◌, ◌++◌, Option, Some, None, nat_lt, codes}
 use Rattle.std.specs.Str.{bytes_eq}
 use Rattle.es_model.specs.Tree.{Text}
-use Rattle.es_model.specs.State.{TraceEvent}
-use Rattle.es_model.specs.Host.{line_events}
+use Rattle.es_ops.specs.State.{TraceEvent}
+use Rattle.es_ops.specs.Host.{line_events}
 use Rattle.es_model.specs.Tree as t
 use Rattle.es_model.specs.Tree.{Tree}
 

@@ -2,13 +2,13 @@
 use Rattle.std.proofs.Common.{◌≡◌, ℕ, true, false, List, [], ◌∷◌, refl, Some, None, pos, codes}
 use Rattle.js_value.specs.Value.{Undefined, Null, Number, String, Object, Key, Index, Named}
 use Rattle.js_value.specs.Store.{Thing, AnObject, Property, Data}
-use Rattle.es_model.specs.State.{some_slots, some_units}
-use Rattle.es_model.specs.Messages.{NotWritable, InvalidArrayLength, text_of_message}
-use Rattle.es_model.specs.Errors.{error_record}
-use Rattle.es_model.specs.Act.{Give}
-use Rattle.es_model.specs.PropertyReads.{get, get_v}
-use Rattle.es_model.specs.PropertyWrites.{put_value, delete_v}
-use Rattle.es_model.proofs.Samples.{plain, getter, setter, ordinary, array_of, function, runs, came, Gave, Threw, thing_after, used_after, computing}
+use Rattle.es_ops.specs.State.{some_slots, some_units}
+use Rattle.es_ops.specs.Messages.{NotWritable, InvalidArrayLength, text_of_message}
+use Rattle.es_ops.specs.Errors.{error_record}
+use Rattle.es_ops.specs.Act.{Give}
+use Rattle.es_ops.specs.PropertyReads.{get, get_v}
+use Rattle.es_ops.specs.PropertyWrites.{put_value, delete_v}
+use Rattle.es_ops.proofs.Samples.{plain, getter, setter, ordinary, array_of, function, runs, came, Gave, Threw, thing_after, used_after, computing}
 
 a : Key
 a = Named (codes "a")

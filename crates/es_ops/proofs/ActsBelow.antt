@@ -10,16 +10,16 @@ use Rattle.js_value.specs.WellFormed.{IsValueBelow, IsContentBelow, IsObjectBelo
 use Rattle.js_value.proofs.Keys.{key_of_text_is_key, key_of_number_is_key}
 use Rattle.js_value.proofs.Profile.{is_string, string_tested, text_of_number_is_string, number_of_text_is_number, unit_of_text}
 use Rattle.js_value.proofs.Below.{value_more, values_more, if_value_more, content_more, reaction_more, state_more, thing_more, if_number_more}
-use Rattle.es_model.specs.Messages.{Message, NumberOutOfRange, StringTooLong, InvalidArrayLength, InvalidArgument, NotDefined, NotInitialised, EmptyArray, SuperCalledTwice, AssignmentToConstant, NotAFunction, NotAConstructor, CalledWithoutNew, NoProperties, NotWritable, NotDefinable, NotDeletable, NotAnObject, NoPrimitiveValue, PrimitiveExpected, AccessorOnIndex, PrototypeNotSettable, ResolvedWithItself, WrongReceiver, ReturnedPrimitive, text_of_message}
-use Rattle.es_model.specs.State.{Job, FulfilJob, RejectJob, ThenableJob}
-use Rattle.es_model.specs.InternalMethods.{Method, DefineOwnProperty, Delete, PreventExtensions, SetPrototypeOf, Freeze}
-use Rattle.es_model.specs.Events.{Question, TheObject, TheCell, TheMark, TheProperty, TheSetStep, TheIntrinsic, TheInput, Deed, Make, Apply, Attach, SetCell, SetMark, Settle, AddReaction, Enqueue, Dequeue, AddRejection, RemoveRejection, MakeText, Write, Take}
-use Rattle.es_model.specs.Act.{Act, Give, Throw, Halt, Turn, Ask, Do, Call, Try, ◌>>=◌, completed, by_completion, Completion, NormalCompletion, ThrowCompletion}
-use Rattle.es_model.specs.Errors.{make_error, raise, make_text, message_name, error_record, longest_text}
-use Rattle.es_model.specs.PropertyReads.{is_callable, call_getter, content_value, property_value, get, has_property, inherited, StringProperty, AUnit, Length, Inherits, string_unit, string_property, string_value, get_v}
-use Rattle.es_model.specs.Conversions.{Hint, DefaultHint, NumberHint, StringHint, primitive_by, to_primitive, number_of_primitive, number_or_raise, to_number, text_of_primitive, to_string, key_of_primitive, to_property_key, primitive_expected, number_expected, text_expected, key_expected}
-use Rattle.es_model.specs.Laws.{IsMethodBelow, IsJobBelow, IsDeedBelow, IsQuestionBelow, IsCompletionBelow, IsActBelow}
-use Rattle.es_model.specs.Operations.{Later, AnyBool, ANumber, AString, AKey, AThing}
+use Rattle.es_ops.specs.Messages.{Message, NumberOutOfRange, StringTooLong, InvalidArrayLength, InvalidArgument, NotDefined, NotInitialised, EmptyArray, SuperCalledTwice, AssignmentToConstant, NotAFunction, NotAConstructor, CalledWithoutNew, NoProperties, NotWritable, NotDefinable, NotDeletable, NotAnObject, NoPrimitiveValue, PrimitiveExpected, AccessorOnIndex, PrototypeNotSettable, ResolvedWithItself, WrongReceiver, ReturnedPrimitive, text_of_message}
+use Rattle.js_value.specs.Job.{Job, FulfilJob, RejectJob, ThenableJob}
+use Rattle.es_ops.specs.InternalMethods.{Method, DefineOwnProperty, Delete, PreventExtensions, SetPrototypeOf, Freeze}
+use Rattle.es_ops.specs.Events.{Question, TheObject, TheCell, TheMark, TheProperty, TheSetStep, TheIntrinsic, TheInput, Deed, Make, Apply, Attach, SetCell, SetMark, Settle, AddReaction, Enqueue, Dequeue, AddRejection, RemoveRejection, MakeText, Write, Take}
+use Rattle.es_ops.specs.Act.{Act, Give, Throw, Halt, Turn, Ask, Do, Call, Try, ◌>>=◌, completed, by_completion, Completion, NormalCompletion, ThrowCompletion}
+use Rattle.es_ops.specs.Errors.{make_error, raise, make_text, message_name, error_record, longest_text}
+use Rattle.es_ops.specs.PropertyReads.{is_callable, call_getter, content_value, property_value, get, has_property, inherited, StringProperty, AUnit, Length, Inherits, string_unit, string_property, string_value, get_v}
+use Rattle.es_ops.specs.Conversions.{Hint, DefaultHint, NumberHint, StringHint, primitive_by, to_primitive, number_of_primitive, number_or_raise, to_number, text_of_primitive, to_string, key_of_primitive, to_property_key, primitive_expected, number_expected, text_expected, key_expected}
+use Rattle.es_ops.specs.Laws.{IsMethodBelow, IsJobBelow, IsDeedBelow, IsQuestionBelow, IsCompletionBelow, IsActBelow}
+use Rattle.es_ops.specs.Operations.{Later, AnyBool, ANumber, AString, AKey, AThing}
 
 pub later_more : {T : Type 0} (m n : ℕ) (B : ℕ → T → Type 0) (k : T → Act) → m ≤ n → Later m B k → Later n B k
 later_more m n B k le h = λ i l x b. h i (le_trans le l) x b

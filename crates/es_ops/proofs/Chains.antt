@@ -3,7 +3,7 @@ use Rattle.std.proofs.Common.{◌≡◌, ◌≢◌, ℕ, zero, suc, ◌<◌, Boo
 use Rattle.std.proofs.lemmas.Bool.{cases_eq}
 use Rattle.js_value.specs.Store.{Store, Thing, object_in, as_object}
 use Rattle.js_value.specs.WellFormed.{ChainEnds, Ended, Next, IfNumberBelow}
-use Rattle.es_model.specs.InternalMethods.{on_chain, longest}
+use Rattle.es_ops.specs.InternalMethods.{on_chain, longest}
 
 -- ---- what stands at a place
 

@@ -7,8 +7,8 @@ use Rattle.js_value.specs.Store.{Store, Property, Content, Data, Accessor, Class
 use Rattle.js_value.specs.Order.{FitsLength, IsOrderly}
 use Rattle.js_value.specs.WellFormed.{IsValueBelow, IfValueBelow, IsContentBelow, ArePropertiesBelow, IsClassBelow, IsObjectBelow}
 use Rattle.js_value.proofs.Below.{put_index_properties, put_name_properties, removed_properties, found_properties, append_properties}
-use Rattle.es_model.specs.InternalMethods.{PropertyDescriptor, Outcome, refused, unchanged, wrote, validate_and_apply_property_descriptor, ordinary_define_own_property, new_property, new_content, applied, applied_content, forbidden, has_fields, is_accessor_descriptor, is_data_descriptor, length_of_value, lowest_length, elements_below, lowered, set_length_to, length_set_by, array_set_length, raised, array_define_own_property, define_by_class, is_refused, define_own_property, ordinary_delete, delete_own_property, prevent_extensions, fixed_content, all_fixed, fixed_class, freeze, set_prototype_of, same_prototype, on_chain, longest, Method, DefineOwnProperty, Delete, PreventExtensions, SetPrototypeOf, Freeze, apply_method}
-use Rattle.es_model.specs.Laws.{IsDescriptorBelow, IsMethodBelow}
+use Rattle.es_ops.specs.InternalMethods.{PropertyDescriptor, Outcome, refused, unchanged, wrote, validate_and_apply_property_descriptor, ordinary_define_own_property, new_property, new_content, applied, applied_content, forbidden, has_fields, is_accessor_descriptor, is_data_descriptor, length_of_value, lowest_length, elements_below, lowered, set_length_to, length_set_by, array_set_length, raised, array_define_own_property, define_by_class, is_refused, define_own_property, ordinary_delete, delete_own_property, prevent_extensions, fixed_content, all_fixed, fixed_class, freeze, set_prototype_of, same_prototype, on_chain, longest, Method, DefineOwnProperty, Delete, PreventExtensions, SetPrototypeOf, Freeze, apply_method}
+use Rattle.es_ops.specs.Laws.{IsDescriptorBelow, IsMethodBelow}
 
 module _ (m : ℕ) where
   abbrev Leaves : Outcome → Type 0

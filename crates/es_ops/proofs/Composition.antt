@@ -1,10 +1,10 @@
 -- A composed act runs as its parts do, one after the other.
 use Rattle.std.proofs.Common.{◌≡◌, ℕ, zero, suc, refl}
 use Rattle.js_value.specs.Value.{Value}
-use Rattle.es_model.specs.State.{State}
-use Rattle.es_model.specs.Ledger.{Event, Happens, Stops}
-use Rattle.es_model.specs.Events.{reply, perform}
-use Rattle.es_model.specs.Act.{Act, Give, Throw, Halt, Turn, Ask, Do, Call, Try, ◌>>=◌, completed, by_completion, Completion, NormalCompletion, ThrowCompletion, Ran, Ends, Halts, Calls, with_world, spent, happened, returned, ended, run}
+use Rattle.es_ops.specs.State.{State}
+use Rattle.es_ops.specs.Ledger.{Event, Happens, Stops}
+use Rattle.es_ops.specs.Events.{reply, perform}
+use Rattle.es_ops.specs.Act.{Act, Give, Throw, Halt, Turn, Ask, Do, Call, Try, ◌>>=◌, completed, by_completion, Completion, NormalCompletion, ThrowCompletion, Ran, Ends, Halts, Calls, with_world, spent, happened, returned, ended, run}
 
 module _ (calls : Calls) where
   happened_then : {A : Type 0} (e : Event A) (s : State) (f h : A → State → Ran) (g : Value → State → Ran) → ((a : A) (s : State) → h a s ≡ returned (f a s) g) → happened e s h ≡ returned (happened e s f) g

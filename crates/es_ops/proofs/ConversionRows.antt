@@ -2,12 +2,12 @@
 use Rattle.std.proofs.Common.{◌≡◌, ℕ, true, false, List, [], ◌∷◌, map, refl, Some, None, pos, negsuc, codes}
 use Rattle.js_value.specs.Value.{Value, Undefined, Null, Boolean, Number, String, Object}
 use Rattle.js_value.specs.Store.{Thing, AnObject}
-use Rattle.es_model.specs.Messages.{NumberOutOfRange, NoPrimitiveValue, PrimitiveExpected, text_of_message}
-use Rattle.es_model.specs.Errors.{error_record}
-use Rattle.es_model.specs.Act.{Give}
-use Rattle.es_model.specs.Equality.{same_value}
-use Rattle.es_model.specs.Conversions.{Hint, DefaultHint, NumberHint, StringHint, to_boolean, to_primitive, to_number, to_string, number_expected, is_loosely_equal}
-use Rattle.es_model.proofs.Samples.{plain, ordinary, function, runs, came, Came, Gave, Threw, thing_after, computing}
+use Rattle.es_ops.specs.Messages.{NumberOutOfRange, NoPrimitiveValue, PrimitiveExpected, text_of_message}
+use Rattle.es_ops.specs.Errors.{error_record}
+use Rattle.es_ops.specs.Act.{Give}
+use Rattle.es_ops.specs.Equality.{same_value}
+use Rattle.es_ops.specs.Conversions.{Hint, DefaultHint, NumberHint, StringHint, to_boolean, to_primitive, to_number, to_string, number_expected, is_loosely_equal}
+use Rattle.es_ops.proofs.Samples.{plain, ordinary, function, runs, came, Came, Gave, Threw, thing_after, computing}
 
 -- Object 13 has methods; 14 gives its receiver, 15 throws 9, 16 gives 7, 17 gives "1", 18 is no function
 methods : (value_of to_string : ℕ) → List Thing

@@ -2,8 +2,8 @@
 use Rattle.std.proofs.Common.{◌≡◌, Bool, true, false, [], ◌∷◌, map, refl, Some, None, pos, codes}
 use Rattle.js_value.specs.Value.{Value, Undefined, Number, Named}
 use Rattle.js_value.specs.Store.{ObjectRecord, Property, Data, Accessor, is_frozen}
-use Rattle.es_model.specs.InternalMethods.{PropertyDescriptor, no_fields, value_descriptor, Outcome, refused, unchanged, wrote, define_own_property, freeze}
-use Rattle.es_model.proofs.Samples.{ordinary, array_of, plain, computing}
+use Rattle.es_ops.specs.InternalMethods.{PropertyDescriptor, no_fields, value_descriptor, Outcome, refused, unchanged, wrote, define_own_property, freeze}
+use Rattle.es_ops.proofs.Samples.{ordinary, array_of, plain, computing}
 
 one : Value
 one = Number (pos 1)

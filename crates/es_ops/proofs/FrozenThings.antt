@@ -7,8 +7,8 @@ use Rattle.js_value.specs.Value.{Value, Undefined, Null, Boolean, Number, String
 use Rattle.js_value.specs.Store.{Store, Property, Content, Data, Accessor, Class, Array, ObjectRecord, own_property, with_property, without_property, with_string, with_length, is_length_of, put_name, put_index, found, length_name, length_property, length_entry, strings, is_frozen, are_fixed, is_fixed, is_fixed_content}
 use Rattle.js_value.specs.Order.{IsOrderly, Ascending, AllAbove, AllBelow, FitsLength}
 use Rattle.js_value.proofs.Entries.{same_text_is}
-use Rattle.es_model.specs.Equality.{same_value, same_bool}
-use Rattle.es_model.specs.InternalMethods.{PropertyDescriptor, Outcome, refused, unchanged, wrote, differs, differs_value, is_accessor, forbidden_content, forbidden, new_property, new_content, applied, applied_content, has_fields, is_accessor_descriptor, is_data_descriptor, is_generic_descriptor, validate_and_apply_property_descriptor, ordinary_define_own_property, length_of_value, lowest_length, lowered, set_length_to, length_set_by, array_set_length, raised, array_define_own_property, define_by_class, is_refused, define_own_property, ordinary_delete, delete_own_property, prevent_extensions, fixed_content, all_fixed, fixed_class, freeze, set_prototype_of, same_prototype, on_chain, longest, Method, DefineOwnProperty, Delete, PreventExtensions, SetPrototypeOf, Freeze, apply_method}
+use Rattle.es_ops.specs.Equality.{same_value, same_bool}
+use Rattle.es_ops.specs.InternalMethods.{PropertyDescriptor, Outcome, refused, unchanged, wrote, differs, differs_value, is_accessor, forbidden_content, forbidden, new_property, new_content, applied, applied_content, has_fields, is_accessor_descriptor, is_data_descriptor, is_generic_descriptor, validate_and_apply_property_descriptor, ordinary_define_own_property, length_of_value, lowest_length, lowered, set_length_to, length_set_by, array_set_length, raised, array_define_own_property, define_by_class, is_refused, define_own_property, ordinary_delete, delete_own_property, prevent_extensions, fixed_content, all_fixed, fixed_class, freeze, set_prototype_of, same_prototype, on_chain, longest, Method, DefineOwnProperty, Delete, PreventExtensions, SetPrototypeOf, Freeze, apply_method}
 
 -- ---- tests
 

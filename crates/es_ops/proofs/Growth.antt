@@ -2,12 +2,15 @@
 use Rattle.std.proofs.Common.{◌≡◌, ℕ, zero, suc, ◌≤◌, Bool, true, false, cond, List, [], ◌∷◌, ◌++◌, length, arith, refl, sym, ap, ◌∙◌, append_assoc, append-nil, Option, Some, None, slice_get, length-append, length-set, le_refl}
 use Rattle.js_value.specs.Value.{Value, Text}
 use Rattle.js_value.specs.Store.{Store, Thing, AnObject, ACell, AMark, ObjectRecord, Class, Promise, PromiseState, Pending, Fulfilled, Rejected, Ordinary, Array, ScriptFunction, BuiltInFunction, ResolveFunction, RejectFunction, Error, Reaction, frozen, size, object_in, cell_in, mark_in}
-use Rattle.es_model.specs.State.{World, State, Counts, plus, nothing, some_slots, some_units, Job}
-use Rattle.es_model.specs.Ledger.{Event, Happens, Stops, Full, charged, charged_unless, passed, written, with_thing, first_cost, with_name, name_added, name_cost, growth}
-use Rattle.es_model.specs.InternalMethods.{Method, apply_method}
-use Rattle.es_model.specs.Events.{reply, Deed, perform, Make, Apply, Attach, SetCell, SetMark, Settle, AddReaction, Enqueue, Dequeue, AddRejection, RemoveRejection, MakeText, Write, Take, apply_outcome, settle_class, react_class, dequeue, attached}
-use Rattle.es_model.specs.Act.{Act, Give, Throw, Halt, Turn, Ask, Do, Call, Try, Completion, NormalCompletion, ThrowCompletion, Ran, Ends, Halts, Calls, with_world, spent, happened, returned, ended, run}
-use Rattle.es_model.specs.Laws.{Grows, IfHappens, state_of}
+use Rattle.js_value.specs.Job.{Job}
+use Rattle.js_value.specs.declared.counts.Room.{Room}
+use Rattle.es_ops.specs.State.{World, State, plus, nothing, some_slots, some_units}
+use Rattle.js_value.specs.declared.counts.Full.{Full}
+use Rattle.es_ops.specs.Ledger.{Event, Happens, Stops, charged, charged_unless, passed, written, with_thing, first_cost, with_name, name_added, name_cost, growth}
+use Rattle.es_ops.specs.InternalMethods.{Method, apply_method}
+use Rattle.es_ops.specs.Events.{reply, Deed, perform, Make, Apply, Attach, SetCell, SetMark, Settle, AddReaction, Enqueue, Dequeue, AddRejection, RemoveRejection, MakeText, Write, Take, apply_outcome, settle_class, react_class, dequeue, attached}
+use Rattle.es_ops.specs.Act.{Act, Give, Throw, Halt, Turn, Ask, Do, Call, Try, Completion, NormalCompletion, ThrowCompletion, Ran, Ends, Halts, Calls, with_world, spent, happened, returned, ended, run}
+use Rattle.es_ops.specs.Laws.{Grows, IfHappens, state_of}
 
 grows_same : (w v : World) → length w.store ≤ length v.store → v.ledger.used ≡ w.ledger.used → v.names ≡ w.names → v.ledger.room ≡ w.ledger.room → v.realm ≡ w.realm → Grows w v
 grows_same w v things used names room realm = record {
@@ -34,7 +37,7 @@ grows_trans u v w a b = record {
   realm = b.realm ∙ a.realm;
 }
 
-charged_grows : {A : Type 0} (w v : World) (price : Counts) (a : A) → Grows w v → IfHappens (charged price a v) (λ b u. Grows w u)
+charged_grows : {A : Type 0} (w v : World) (price : Room) (a : A) → Grows w v → IfHappens (charged price a v) (λ b u. Grows w u)
 charged_grows w v price a g = by_stop (passed (plus v.ledger.used price) v.ledger.room)
   where
     by_stop : (o : Option Full) → IfHappens (charged_unless o a (record v { ledger = record v.ledger { used = plus v.ledger.used price } })) (λ b u. Grows w u)
@@ -60,7 +63,7 @@ thing_grows w v n t g = record {
   realm = g.realm;
 }
 
-written_grows : {A : Type 0} (w v : World) (n : ℕ) (before after : Thing) (p : Counts) (a : A) → Grows w v → IfHappens (written v n before after p a) (λ b u. Grows w u)
+written_grows : {A : Type 0} (w v : World) (n : ℕ) (before after : Thing) (p : Room) (a : A) → Grows w v → IfHappens (written v n before after p a) (λ b u. Grows w u)
 unfolding written
 written_grows w v n before after p a g = by_bool (frozen before)
   where

@@ -7,17 +7,17 @@ use Rattle.js_value.specs.Order.{IsOrderly}
 use Rattle.js_value.specs.WellFormed.{IsValueBelow, IsClassBelow, AreReactionsBelow, IsObjectBelow}
 use Rattle.js_value.proofs.Below.{value_more, reactions_more}
 use Rattle.js_value.proofs.Profile.{string_tested}
-use Rattle.es_model.specs.Equality.{same_value}
-use Rattle.es_model.specs.Messages.{ResolvedWithItself}
-use Rattle.es_model.specs.State.{Job, FulfilJob, RejectJob, ThenableJob}
-use Rattle.es_model.specs.Events.{TheObject, Enqueue, SetMark}
-use Rattle.es_model.specs.Act.{Act, Give, Ask, Do, Completion, NormalCompletion, ThrowCompletion}
-use Rattle.es_model.specs.Errors.{make_error}
-use Rattle.es_model.specs.PropertyReads.{get}
-use Rattle.es_model.specs.Jobs.{enqueue_fulfil_jobs, enqueue_reject_jobs, fulfilled, fulfil_promise, rejected, reject_promise, resolve_with_then, resolve_by_value, resolve_promise, resolving_function, create_resolving_functions, first_call, call_resolve_function, call_reject_function, make_promise, handler_of, then_by_class, perform_promise_then, promise_then, settle_derived, handled, thenable_called, run_job, run_dequeued, run_first_job}
-use Rattle.es_model.specs.Laws.{IsJobBelow, AreReactionAnswersBelow, IsJobAnswerBelow, IsCompletionBelow, IsActBelow}
-use Rattle.es_model.specs.Operations.{Later, AThing}
-use Rattle.es_model.proofs.ActsBelow.{later_more, act_more, completed_below, cond_below, make_error_below, is_callable_below, get_below}
+use Rattle.es_ops.specs.Equality.{same_value}
+use Rattle.es_ops.specs.Messages.{ResolvedWithItself}
+use Rattle.js_value.specs.Job.{Job, FulfilJob, RejectJob, ThenableJob}
+use Rattle.es_ops.specs.Events.{TheObject, Enqueue, SetMark}
+use Rattle.es_ops.specs.Act.{Act, Give, Ask, Do, Completion, NormalCompletion, ThrowCompletion}
+use Rattle.es_ops.specs.Errors.{make_error}
+use Rattle.es_ops.specs.PropertyReads.{get}
+use Rattle.es_ops.specs.Jobs.{enqueue_fulfil_jobs, enqueue_reject_jobs, fulfilled, fulfil_promise, rejected, reject_promise, resolve_with_then, resolve_by_value, resolve_promise, resolving_function, create_resolving_functions, first_call, call_resolve_function, call_reject_function, make_promise, handler_of, then_by_class, perform_promise_then, promise_then, settle_derived, handled, thenable_called, run_job, run_dequeued, run_first_job}
+use Rattle.es_ops.specs.Laws.{IsJobBelow, AreReactionAnswersBelow, IsJobAnswerBelow, IsCompletionBelow, IsActBelow}
+use Rattle.es_ops.specs.Operations.{Later, AThing}
+use Rattle.es_ops.proofs.ActsBelow.{later_more, act_more, completed_below, cond_below, make_error_below, is_callable_below, get_below}
 
 -- ---- settling
 

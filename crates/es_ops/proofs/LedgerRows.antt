@@ -2,13 +2,15 @@
 use Rattle.std.proofs.Common.{◌≡◌, ℕ, true, false, List, [], ◌∷◌, map, refl, None, pos, codes}
 use Rattle.js_value.specs.Value.{Value, Undefined, Null, Number, Object, Numeral}
 use Rattle.js_value.specs.Store.{Thing, AnObject, Property, Data, ObjectRecord}
-use Rattle.es_model.specs.State.{nothing, some_slots, costs_at_start, counts_at_resume, FulfilJob}
-use Rattle.es_model.specs.Ledger.{OutOf, Slots, Units, Names}
-use Rattle.es_model.specs.InternalMethods.{Freeze, PreventExtensions, SetPrototypeOf}
-use Rattle.es_model.specs.Events.{Apply}
-use Rattle.es_model.specs.Act.{Act, Give, Do, run, Ran}
-use Rattle.es_model.specs.PropertyWrites.{put_value}
-use Rattle.es_model.proofs.Samples.{plain, ordinary, array_of, realm_of, ample, world_with, state_in, calls, came, Gave, Stopped, used_after, computing}
+use Rattle.js_value.specs.Job.{FulfilJob}
+use Rattle.es_ops.specs.State.{nothing, some_slots, costs_at_start, counts_at_resume}
+use Rattle.js_value.specs.declared.counts.Full.TheVariants.{Slots, Units, Names}
+use Rattle.es_ops.specs.Ledger.{OutOf}
+use Rattle.es_ops.specs.InternalMethods.{Freeze, PreventExtensions, SetPrototypeOf}
+use Rattle.es_ops.specs.Events.{Apply}
+use Rattle.es_ops.specs.Act.{Act, Give, Do, run, Ran}
+use Rattle.es_ops.specs.PropertyWrites.{put_value}
+use Rattle.es_ops.proofs.Samples.{plain, ordinary, array_of, realm_of, ample, world_with, state_in, calls, came, Gave, Stopped, used_after, computing}
 
 -- a run over preloaded things whose first writes count, with so many slots
 over : List Thing → (slots : ℕ) → Act → Ran

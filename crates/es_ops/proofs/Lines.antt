@@ -3,9 +3,9 @@ use Rattle.std.proofs.Common.{◌≡◌, ◌≤◌, ◌<◌, ◌∙◌, ◌++◌
 use Rattle.js_value.specs.Text.{piece, utf8}
 use Rattle.js_value.proofs.Pieces.{utf8-piece, utf8-none, piece-some}
 use Rattle.js_value.proofs.Ascii.{utf8-append, utf8-ascii_cons}
-use Rattle.es_model.specs.Tree.{Text}
-use Rattle.es_model.specs.State.{TraceEvent, Wrote, Took}
-use Rattle.es_model.specs.Host.{cut, write, written, line_events, line_feed}
+use Rattle.js_value.specs.Value.{Text}
+use Rattle.es_ops.specs.State.{TraceEvent, Wrote, Took}
+use Rattle.es_ops.specs.Host.{cut, write, written, line_events, line_feed}
 
 joined : (n : ℕ) (text : Text) → length text ≤ n → written (map write (cut n text)) ≡ utf8 text
 unfolding cut

@@ -1,15 +1,15 @@
 -- Every operation keeps the world well-formed, where what it is handed is in order.
 use Rattle.std.proofs.Common.{ℕ, length}
-use Rattle.es_model.specs.Act.{Calls, run}
-use Rattle.es_model.specs.State.{State}
-use Rattle.es_model.specs.Conversions.{to_number, number_expected}
-use Rattle.es_model.specs.Laws.{IsActBelow, IsWorldWellFormed, IsRanWellFormed, CallsWell}
-use Rattle.es_model.specs.Operations as op
-use Rattle.es_model.specs.Operations.{Operation, act_of, IsOperationBelow, IsConversionBelow}
-use Rattle.es_model.proofs.ActsBelow.{raise_below, make_error_below, make_text_below, is_callable_below, property_value_below, get_below, has_property_below, get_v_below, to_primitive_below, to_number_below, to_string_below, to_property_key_below, number_expected_below, text_expected_below, key_expected_below}
-use Rattle.es_model.proofs.WritesBelow.{make_cell_below, initialize_cell_below, read_cell_below, write_cell_below, copy_cell_below, define_below, define_or_throw_below, create_below, create_or_throw_below, ordinary_set_below, set_v_below, set_or_throw_below, put_value_below, delete_object_below, delete_v_below, loosely_equal_below}
-use Rattle.es_model.proofs.JobsBelow.{fulfil_below, reject_below, resolve_below, create_functions_below, call_resolve_below, call_reject_below, make_promise_below, perform_then_below, promise_then_below, run_job_below, run_first_job_below}
-use Rattle.es_model.proofs.WellFormedRuns.{run_well}
+use Rattle.es_ops.specs.Act.{Calls, run}
+use Rattle.es_ops.specs.State.{State}
+use Rattle.es_ops.specs.Conversions.{to_number, number_expected}
+use Rattle.es_ops.specs.Laws.{IsActBelow, IsWorldWellFormed, IsRanWellFormed, CallsWell}
+use Rattle.es_ops.specs.Operations as op
+use Rattle.es_ops.specs.Operations.{Operation, act_of, IsOperationBelow, IsConversionBelow}
+use Rattle.es_ops.proofs.ActsBelow.{raise_below, make_error_below, make_text_below, is_callable_below, property_value_below, get_below, has_property_below, get_v_below, to_primitive_below, to_number_below, to_string_below, to_property_key_below, number_expected_below, text_expected_below, key_expected_below}
+use Rattle.es_ops.proofs.WritesBelow.{make_cell_below, initialize_cell_below, read_cell_below, write_cell_below, copy_cell_below, define_below, define_or_throw_below, create_below, create_or_throw_below, ordinary_set_below, set_v_below, set_or_throw_below, put_value_below, delete_object_below, delete_v_below, loosely_equal_below}
+use Rattle.es_ops.proofs.JobsBelow.{fulfil_below, reject_below, resolve_below, create_functions_below, call_resolve_below, call_reject_below, make_promise_below, perform_then_below, promise_then_below, run_job_below, run_first_job_below}
+use Rattle.es_ops.proofs.WellFormedRuns.{run_well}
 
 -- both conversions that an array's `length` may take
 pub to_number_converts : IsConversionBelow to_number

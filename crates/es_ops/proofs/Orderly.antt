@@ -7,8 +7,8 @@ use Rattle.js_value.specs.Value.{Value, Undefined, Null, Boolean, Number, String
 use Rattle.js_value.specs.Store.{Store, Property, Data, Class, Array, ObjectRecord, own_property, with_property, without_property, with_string, with_length, is_length_of, put_name, put_index, removed, found, length_name, length_property, length_entry, strings}
 use Rattle.js_value.specs.Order.{IsName, IsKey, AllAbove, AllBelow, Ascending, Distinct, AreNames, NoLength, IsOrderly}
 use Rattle.js_value.proofs.Entries.{put_name_distinct, put_name_names, found-put_name, removed_none, removed_distinct, removed_names, all_below_more, put_index_below, put_index_ascending, removed_below, removed_ascending, same_text_sym}
-use Rattle.es_model.specs.Equality.{same_bool}
-use Rattle.es_model.specs.InternalMethods.{PropertyDescriptor, Outcome, refused, unchanged, wrote, validate_and_apply_property_descriptor, ordinary_define_own_property, new_property, new_content, applied, differs, forbidden_content, forbidden, has_fields, is_accessor_descriptor, is_data_descriptor, lowest_length, elements_below, lowered, set_length_to, length_set_by, array_set_length, raised, array_define_own_property, define_by_class, is_refused, define_own_property, ordinary_delete, delete_own_property, prevent_extensions, fixed_property, all_fixed, fixed_class, freeze, set_prototype_of, same_prototype, on_chain, longest, Method, DefineOwnProperty, Delete, PreventExtensions, SetPrototypeOf, Freeze, apply_method}
+use Rattle.es_ops.specs.Equality.{same_bool}
+use Rattle.es_ops.specs.InternalMethods.{PropertyDescriptor, Outcome, refused, unchanged, wrote, validate_and_apply_property_descriptor, ordinary_define_own_property, new_property, new_content, applied, differs, forbidden_content, forbidden, has_fields, is_accessor_descriptor, is_data_descriptor, lowest_length, elements_below, lowered, set_length_to, length_set_by, array_set_length, raised, array_define_own_property, define_by_class, is_refused, define_own_property, ordinary_delete, delete_own_property, prevent_extensions, fixed_property, all_fixed, fixed_class, freeze, set_prototype_of, same_prototype, on_chain, longest, Method, DefineOwnProperty, Delete, PreventExtensions, SetPrototypeOf, Freeze, apply_method}
 
 abbrev Written : (ObjectRecord → Type 0) → Outcome → Type 0
 Written P out = IfSome out.written P

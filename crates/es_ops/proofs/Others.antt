@@ -2,11 +2,14 @@
 use Rattle.std.proofs.Common.{◌≡◌, ◌≢◌, ℕ, zero, suc, ◌<◌, Bool, true, false, cond, List, [], ◌∷◌, ◌++◌, length, set, arith, refl, ap, ◌∙◌, Option, Some, None, slice_get, ◌==◌, eq-eqb}
 use Rattle.js_value.specs.Value.{Text}
 use Rattle.js_value.specs.Store.{Store, Thing, AnObject, ACell, AMark, ObjectRecord, Class, Promise, PromiseState, Pending, Fulfilled, Rejected, Ordinary, Array, ScriptFunction, BuiltInFunction, ResolveFunction, RejectFunction, Error, Reaction, frozen, size, object_in, cell_in, mark_in}
-use Rattle.es_model.specs.State.{World, Counts, plus, nothing, some_slots, some_units, Job}
-use Rattle.es_model.specs.Ledger.{Event, Happens, Full, charged, charged_unless, passed, written, with_thing, first_cost, with_name, name_added, name_cost, growth}
-use Rattle.es_model.specs.InternalMethods.{Method, apply_method}
-use Rattle.es_model.specs.Events.{Deed, perform, Make, Apply, Attach, SetCell, SetMark, Settle, AddReaction, Enqueue, Dequeue, AddRejection, RemoveRejection, MakeText, Write, Take, apply_outcome, settle_class, react_class, dequeue, attached}
-use Rattle.es_model.specs.Laws.{IfHappens, changes}
+use Rattle.js_value.specs.Job.{Job}
+use Rattle.js_value.specs.declared.counts.Room.{Room}
+use Rattle.es_ops.specs.State.{World, plus, nothing, some_slots, some_units}
+use Rattle.js_value.specs.declared.counts.Full.{Full}
+use Rattle.es_ops.specs.Ledger.{Event, Happens, charged, charged_unless, passed, written, with_thing, first_cost, with_name, name_added, name_cost, growth}
+use Rattle.es_ops.specs.InternalMethods.{Method, apply_method}
+use Rattle.es_ops.specs.Events.{Deed, perform, Make, Apply, Attach, SetCell, SetMark, Settle, AddReaction, Enqueue, Dequeue, AddRejection, RemoveRejection, MakeText, Write, Take, apply_outcome, settle_class, react_class, dequeue, attached}
+use Rattle.es_ops.specs.Laws.{IfHappens, changes}
 
 pub get-set_other : {X : Type 0} (xs : List X) (i j : ℕ) (x : X) → i ≢ j → slice_get (set xs i x) j ≡ slice_get xs j
 get-set_other [] i j x d = refl
@@ -28,7 +31,7 @@ module _ (k : ℕ) (x : Option Thing) where
   Stays : {A : Type 0} → Event A → Type 0
   Stays e = IfHappens e (λ a v. slice_get v.store k ≡ x)
 
-  charged_stays : {A : Type 0} (price : Counts) (a : A) (v : World) → slice_get v.store k ≡ x → Stays (charged price a v)
+  charged_stays : {A : Type 0} (price : Room) (a : A) (v : World) → slice_get v.store k ≡ x → Stays (charged price a v)
   unfolding Stays
   charged_stays price a v e = by_stop (passed (plus v.ledger.used price) v.ledger.room)
     where
@@ -36,7 +39,7 @@ module _ (k : ℕ) (x : Option Thing) where
       by_stop None = e
       by_stop (Some full) = tt
 
-  written_stays : {A : Type 0} (v : World) (n : ℕ) (before after : Thing) (p : Counts) (a : A) → (n == k) ≡ false → slice_get v.store k ≡ x → Stays (written v n before after p a)
+  written_stays : {A : Type 0} (v : World) (n : ℕ) (before after : Thing) (p : Room) (a : A) → (n == k) ≡ false → slice_get v.store k ≡ x → Stays (written v n before after p a)
   unfolding written Stays
   written_stays v n before after p a d e = by_bool (frozen before)
     where

@@ -4,24 +4,26 @@ use Rattle.js_value.specs.Number.{num, sum}
 use Rattle.js_value.specs.Text.{utf8, encoded, character_length}
 use Rattle.js_value.specs.Value.{Value, Undefined, Number, String, Object, Text, Key, Named, key_of_number}
 use Rattle.js_value.specs.Store.{Thing, AnObject, ACell, Property, Data, Array}
-use Rattle.es_model.specs.State.{State, Counts, nothing, some_slots, costs_at_start, TraceEvent, Wrote}
-use Rattle.es_model.specs.Ledger.{OutOf, Slots, Units}
-use Rattle.es_model.specs.InternalMethods.{Freeze}
-use Rattle.es_model.specs.Events.{Write, Apply}
-use Rattle.es_model.specs.Act.{Act, Give, Turn, Do, Completion, NormalCompletion, ThrowCompletion, completed, run, Ran, Ends, Halts}
-use Rattle.es_model.specs.Errors.{make_text}
-use Rattle.es_model.specs.Bindings.{make_cell, initialize_cell, read_cell, write_cell}
-use Rattle.es_model.specs.Conversions.{to_number, to_string, number_or_raise, number_expected, text_expected}
-use Rattle.es_model.specs.PropertyReads.{get, get_v}
-use Rattle.es_model.specs.PropertyWrites.{put_value, set_or_throw}
-use Rattle.es_model.proofs.Samples.{plain, ordinary, realm_of, ample, world_with, state_in, calls, came, Came, Gave, Stopped, thing_after, computing}
+use Rattle.js_value.specs.declared.counts.Room.{Room}
+use Rattle.es_ops.specs.State.{State, nothing, some_slots, costs_at_start, TraceEvent, Wrote}
+use Rattle.js_value.specs.declared.counts.Full.TheVariants.{Slots, Units}
+use Rattle.es_ops.specs.Ledger.{OutOf}
+use Rattle.es_ops.specs.InternalMethods.{Freeze}
+use Rattle.es_ops.specs.Events.{Write, Apply}
+use Rattle.es_ops.specs.Act.{Act, Give, Turn, Do, Completion, NormalCompletion, ThrowCompletion, completed, run, Ran, Ends, Halts}
+use Rattle.es_ops.specs.Errors.{make_text}
+use Rattle.es_ops.specs.Bindings.{make_cell, initialize_cell, read_cell, write_cell}
+use Rattle.es_ops.specs.Conversions.{to_number, to_string, number_or_raise, number_expected, text_expected}
+use Rattle.es_ops.specs.PropertyReads.{get, get_v}
+use Rattle.es_ops.specs.PropertyWrites.{put_value, set_or_throw}
+use Rattle.es_ops.proofs.Samples.{plain, ordinary, realm_of, ample, world_with, state_in, calls, came, Came, Gave, Stopped, thing_after, computing}
 
 -- ---- runs whose first writes count, and what is told of one
 
 record Tally : Type 0 where
   came : Came
   trace : List TraceEvent
-  used : Counts
+  used : Room
   meter : ℕ
 
 abbrev left_by : Came → State → Tally
@@ -35,13 +37,13 @@ tally (Halts stop s) = left_by (came (Halts stop s)) s
 abbrev type_error : Thing
 type_error = AnObject (ordinary None ((codes "name", plain (String (codes "TypeError"))) ∷ []))
 
-abbrev over : List Thing → Counts → Act → Ran
+abbrev over : List Thing → Room → Act → Ran
 over things room p = run calls p (state_in (record (world_with room things (costs_at_start true (realm_of things))) { store = set (realm_of things) 6 type_error }))
 
-abbrev slots_of : ℕ → Counts
+abbrev slots_of : ℕ → Room
 slots_of n = record ample { slots = n }
 
-abbrev units_of : ℕ → Counts
+abbrev units_of : ℕ → Room
 units_of n = record ample { units = n }
 
 -- each call takes a unit first

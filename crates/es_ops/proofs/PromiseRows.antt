@@ -2,12 +2,13 @@
 use Rattle.std.proofs.Common.{◌≡◌, ℕ, true, false, List, [], ◌∷◌, refl, Some, None, pos, codes}
 use Rattle.js_value.specs.Value.{Undefined, Null, Number, Object}
 use Rattle.js_value.specs.Store.{Thing, AnObject, AMark, Promise, PromiseState, Pending, Fulfilled, Rejected, Reaction}
-use Rattle.es_model.specs.State.{World, some_slots, FulfilJob, RejectJob, ThenableJob}
-use Rattle.es_model.specs.Messages.{ResolvedWithItself, text_of_message}
-use Rattle.es_model.specs.Errors.{error_record}
-use Rattle.es_model.specs.Act.{Act, Give, ◌>>=◌, run, Ran}
-use Rattle.es_model.specs.Jobs.{call_resolve_function, call_reject_function, fulfil_promise, reject_promise, promise_then, run_first_job, create_resolving_functions}
-use Rattle.es_model.proofs.Samples.{plain, ordinary, function, runs, world_after, thing_after, computing}
+use Rattle.js_value.specs.Job.{FulfilJob, RejectJob, ThenableJob}
+use Rattle.es_ops.specs.State.{World, some_slots}
+use Rattle.es_ops.specs.Messages.{ResolvedWithItself, text_of_message}
+use Rattle.es_ops.specs.Errors.{error_record}
+use Rattle.es_ops.specs.Act.{Act, Give, ◌>>=◌, run, Ran}
+use Rattle.es_ops.specs.Jobs.{call_resolve_function, call_reject_function, fulfil_promise, reject_promise, promise_then, run_first_job, create_resolving_functions}
+use Rattle.es_ops.proofs.Samples.{plain, ordinary, function, runs, world_after, thing_after, computing}
 
 -- 13 is a pending promise, 14 its mark, 15 an object whose `then` is the function 16, 17 a pending promise with a reaction
 promise : PromiseState → List Reaction → Thing
@@ -45,8 +46,8 @@ thenable_rejected = refl
 
 -- the job took a unit of the meter
 thenable_meter : Ran → ℕ
-thenable_meter (Rattle.es_model.specs.Act.Ends c s) = s.meter
-thenable_meter (Rattle.es_model.specs.Act.Halts stop s) = s.meter
+thenable_meter (Rattle.es_ops.specs.Act.Ends c s) = s.meter
+thenable_meter (Rattle.es_ops.specs.Act.Halts stop s) = s.meter
 
 thenable_units : thenable_meter (runs thenable_run things) ≡ 99
 unfolding computing promise reaction things thenable_run thenable_meter

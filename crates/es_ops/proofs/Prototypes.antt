@@ -4,7 +4,7 @@ use Rattle.std.specs.Option.{option_map_or}
 use Rattle.js_value.specs.NumberText.{text_of_number}
 use Rattle.js_value.specs.Value.{Value, Undefined, Null, Boolean, Number, String, Object, Text, same_text, Key, Index, Named, Numeral}
 use Rattle.js_value.specs.Store.{Property, Content, Data, Accessor, Class, Array, ObjectRecord, own_property, with_property, without_property, with_string, with_length, is_length_of, put_name, length_name}
-use Rattle.es_model.specs.InternalMethods.{PropertyDescriptor, Outcome, refused, unchanged, wrote, validate_and_apply_property_descriptor, ordinary_define_own_property, new_property, applied, forbidden, has_fields, length_of_value, lowest_length, elements_below, lowered, set_length_to, length_set_by, array_set_length, raised, array_define_own_property, define_by_class, is_refused, define_own_property, ordinary_delete, delete_own_property}
+use Rattle.es_ops.specs.InternalMethods.{PropertyDescriptor, Outcome, refused, unchanged, wrote, validate_and_apply_property_descriptor, ordinary_define_own_property, new_property, applied, forbidden, has_fields, length_of_value, lowest_length, elements_below, lowered, set_length_to, length_set_by, array_set_length, raised, array_define_own_property, define_by_class, is_refused, define_own_property, ordinary_delete, delete_own_property}
 
 module _ (prototype : Option ℕ) where
   abbrev Has : ObjectRecord → Type 0

@@ -2,19 +2,20 @@
 use Rattle.std.proofs.Common.{ℕ, Bool, true, cond, List, [], ◌∷◌, Option, Some, None, slice_get, pos, codes, ◌==◌}
 use Rattle.js_value.specs.Value.{Value, Undefined, Number, String, Object, Text}
 use Rattle.js_value.specs.Store.{Thing, AnObject, ObjectRecord, Class, Ordinary, Array, BuiltInFunction, Property, Data, Accessor, Store}
-use Rattle.es_model.specs.State.{World, State, Counts, nothing}
-use Rattle.es_model.specs.Ledger.{Stop}
-use Rattle.es_model.specs.Act.{Act, Ran, Ends, Halts, Calls, NormalCompletion, ThrowCompletion}
+use Rattle.js_value.specs.declared.counts.Room.{Room}
+use Rattle.es_ops.specs.State.{World, State, nothing}
+use Rattle.es_ops.specs.Ledger.{Stop}
+use Rattle.es_ops.specs.Act.{Act, Ran, Ends, Halts, Calls, NormalCompletion, ThrowCompletion}
 use Rattle.js_value.specs.Store.{object_in, cell_in, mark_in, own_property, with_property, without_property, is_frozen}
-use Rattle.es_model.specs.Act.{run}
-use Rattle.es_model.specs.Conversions.{to_primitive, to_number, to_string, to_property_key, number_expected, text_expected, key_expected, loosely_equal_within, is_loosely_equal}
-use Rattle.es_model.specs.Errors.{make_error, raise, make_text}
-use Rattle.es_model.specs.Events.{reply, perform}
-use Rattle.es_model.specs.InternalMethods.{validate_and_apply_property_descriptor, define_own_property, delete_own_property, prevent_extensions, freeze, longest, property_from, find_property, on_chain, set_prototype_of, set_step, apply_method}
-use Rattle.es_model.specs.Jobs.{fulfil_promise, reject_promise, resolve_promise, create_resolving_functions, call_resolve_function, call_reject_function, make_promise, perform_promise_then, promise_then, run_job, run_first_job}
-use Rattle.es_model.specs.Ledger.{written}
-use Rattle.es_model.specs.PropertyReads.{is_callable, property_value, get, has_property, get_v}
-use Rattle.es_model.specs.PropertyWrites.{define_own_property as define_with_length, define_property_or_throw, create_data_property, create_data_property_or_throw, ordinary_set, set_v, set_or_throw, put_value, delete_property_or_throw, delete_v}
+use Rattle.es_ops.specs.Act.{run}
+use Rattle.es_ops.specs.Conversions.{to_primitive, to_number, to_string, to_property_key, number_expected, text_expected, key_expected, loosely_equal_within, is_loosely_equal}
+use Rattle.es_ops.specs.Errors.{make_error, raise, make_text}
+use Rattle.es_ops.specs.Events.{reply, perform}
+use Rattle.es_ops.specs.InternalMethods.{validate_and_apply_property_descriptor, define_own_property, delete_own_property, prevent_extensions, freeze, longest, property_from, find_property, on_chain, set_prototype_of, set_step, apply_method}
+use Rattle.es_ops.specs.Jobs.{fulfil_promise, reject_promise, resolve_promise, create_resolving_functions, call_resolve_function, call_reject_function, make_promise, perform_promise_then, promise_then, run_job, run_first_job}
+use Rattle.es_ops.specs.Ledger.{written}
+use Rattle.es_ops.specs.PropertyReads.{is_callable, property_value, get, has_property, get_v}
+use Rattle.es_ops.specs.PropertyWrites.{define_own_property as define_with_length, define_property_or_throw, create_data_property, create_data_property_or_throw, ordinary_set, set_v, set_or_throw, put_value, delete_property_or_throw, delete_v}
 use Rattle.js_value.specs.Literal.{literal_number, digits_number}
 use Rattle.js_value.specs.Numeral.{is_white_space}
 
@@ -46,10 +47,10 @@ realm_of things = blank ∷ blank ∷ blank ∷ blank ∷ blank ∷ blank ∷ bl
 abbrev pub places : List ℕ
 places = 0 ∷ 1 ∷ 2 ∷ 3 ∷ 4 ∷ 5 ∷ 6 ∷ 7 ∷ 8 ∷ 9 ∷ 10 ∷ 11 ∷ 12 ∷ []
 
-abbrev pub ample : Counts
+abbrev pub ample : Room
 ample = record { slots = 1000; units = 1000; names = 1000 }
 
-abbrev pub world_with : Counts → List Thing → List ℕ → World
+abbrev pub world_with : Room → List Thing → List ℕ → World
 world_with room things first_costs = record {
   store = realm_of things;
   realm = places;
@@ -107,7 +108,7 @@ world_after (Halts stop s) = s.world
 abbrev pub thing_after : Ran → ℕ → Option Thing
 thing_after r n = slice_get (world_after r).store n
 
-abbrev pub used_after : Ran → Counts
+abbrev pub used_after : Ran → Room
 used_after r = (world_after r).ledger.used
 
 -- rows that name this compute through all definitions

@@ -2,18 +2,20 @@
 use Rattle.std.proofs.Common.{◌≡◌, true, false, [], ◌∷◌, refl, Some, None, pos, codes}
 use Rattle.js_value.specs.Value.{Undefined, Number, Object, Index, Named}
 use Rattle.js_value.specs.Store.{ObjectRecord, Property, Data}
-use Rattle.es_model.specs.State.{Counts, some_slots}
-use Rattle.es_model.specs.Ledger.{OutOf, Slots, Units}
-use Rattle.es_model.specs.InternalMethods.{no_fields, value_descriptor, refused, unchanged, wrote, define_own_property, delete_own_property}
-use Rattle.es_model.specs.Events.{Make, MakeText}
-use Rattle.es_model.specs.Act.{Act, Give, Do, run}
-use Rattle.es_model.proofs.Samples.{plain, ordinary, array_of, blank, ample, world_with, state_in, calls, came, Stopped, used_after, computing}
+use Rattle.js_value.specs.declared.counts.Room.{Room}
+use Rattle.es_ops.specs.State.{some_slots}
+use Rattle.js_value.specs.declared.counts.Full.TheVariants.{Slots, Units}
+use Rattle.es_ops.specs.Ledger.{OutOf}
+use Rattle.es_ops.specs.InternalMethods.{no_fields, value_descriptor, refused, unchanged, wrote, define_own_property, delete_own_property}
+use Rattle.es_ops.specs.Events.{Make, MakeText}
+use Rattle.es_ops.specs.Act.{Act, Give, Do, run}
+use Rattle.es_ops.proofs.Samples.{plain, ordinary, array_of, blank, ample, world_with, state_in, calls, came, Stopped, used_after, computing}
 
 -- two objects in a room of one slot
 two_objects : Act
 two_objects = Do (Make blank) (λ a. Do (Make blank) (λ b. Give Undefined))
 
-one_slot : Counts
+one_slot : Room
 one_slot = record ample { slots = 1 }
 
 second_object_stops : came (run calls two_objects (state_in (world_with one_slot [] []))) ≡ Stopped (OutOf Slots)

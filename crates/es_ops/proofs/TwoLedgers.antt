@@ -2,12 +2,15 @@
 use Rattle.std.proofs.Common.{◌≡◌, ℕ, zero, suc, Bool, true, false, cond, List, [], ◌∷◌, ◌++◌, length, set, refl, sym, ap, ◌∙◌, subst, Option, Some, None}
 use Rattle.js_value.specs.Value.{Value, Key, Index, Named, Numeral}
 use Rattle.js_value.specs.Store.{Thing, AnObject, ACell, AMark, ObjectRecord, Class, Promise, PromiseState, Pending, Fulfilled, Rejected, Ordinary, Array, ScriptFunction, BuiltInFunction, ResolveFunction, RejectFunction, Error, Reaction, frozen, size, object_in, cell_in, mark_in}
-use Rattle.es_model.specs.State.{World, State, Ledger, Counts, plus, nothing, some_slots, some_units, Job}
-use Rattle.es_model.specs.Ledger.{Event, Happens, Stops, Stop, OutOf, Budget, Depth, NoHost, Full, charged, charged_unless, passed, written, with_thing, first_cost, with_name, name_added, name_cost, growth, created, new_name}
-use Rattle.es_model.specs.InternalMethods.{Method, DefineOwnProperty, Delete, PreventExtensions, SetPrototypeOf, Freeze, apply_method}
-use Rattle.es_model.specs.Events.{Question, reply, TheObject, TheCell, TheMark, TheProperty, TheSetStep, TheIntrinsic, TheInput, Deed, perform, Make, Apply, Attach, SetCell, SetMark, Settle, AddReaction, Enqueue, Dequeue, AddRejection, RemoveRejection, MakeText, Write, Take, apply_outcome, settle_class, react_class, dequeue}
-use Rattle.es_model.specs.Act.{Act, Give, Throw, Halt, Turn, Ask, Do, Call, Try, Completion, NormalCompletion, ThrowCompletion, Ran, Ends, Halts, Calls, with_world, spent, happened, returned, ended, run}
-use Rattle.es_model.specs.Laws.{IsAlike, IsAlikeState, EndAlikeUnlessFull}
+use Rattle.js_value.specs.Job.{Job}
+use Rattle.js_value.specs.declared.counts.Room.{Room}
+use Rattle.es_ops.specs.State.{World, State, Ledger, plus, nothing, some_slots, some_units}
+use Rattle.js_value.specs.declared.counts.Full.{Full}
+use Rattle.es_ops.specs.Ledger.{Event, Happens, Stops, Stop, OutOf, Budget, Depth, NoHost, charged, charged_unless, passed, written, with_thing, first_cost, with_name, name_added, name_cost, growth, created, new_name}
+use Rattle.es_ops.specs.InternalMethods.{Method, DefineOwnProperty, Delete, PreventExtensions, SetPrototypeOf, Freeze, apply_method}
+use Rattle.es_ops.specs.Events.{Question, reply, TheObject, TheCell, TheMark, TheProperty, TheSetStep, TheIntrinsic, TheInput, Deed, perform, Make, Apply, Attach, SetCell, SetMark, Settle, AddReaction, Enqueue, Dequeue, AddRejection, RemoveRejection, MakeText, Write, Take, apply_outcome, settle_class, react_class, dequeue}
+use Rattle.es_ops.specs.Act.{Act, Give, Throw, Halt, Turn, Ask, Do, Call, Try, Completion, NormalCompletion, ThrowCompletion, Ran, Ends, Halts, Calls, with_world, spent, happened, returned, ended, run}
+use Rattle.es_ops.specs.Laws.{IsAlike, IsAlikeState, EndAlikeUnlessFull}
 
 -- two events that happen answer the same and leave worlds that are alike
 abbrev EventsAlike : {A : Type 0} → Event A → Event A → Type 0
@@ -24,10 +27,10 @@ unless_alike None (Some f) a w v e = tt
 unless_alike (Some f) None a w v e = tt
 unless_alike (Some f) (Some g) a w v e = tt
 
-charged_alike : {A : Type 0} (p q : Counts) (a : A) (w : World) (l : Ledger) → EventsAlike (charged p a w) (charged q a (under w l))
+charged_alike : {A : Type 0} (p q : Room) (a : A) (w : World) (l : Ledger) → EventsAlike (charged p a w) (charged q a (under w l))
 charged_alike p q a w l = unless_alike (passed (plus w.ledger.used p) w.ledger.room) (passed (plus l.used q) l.room) a (record w { ledger = record w.ledger { used = plus w.ledger.used p } }) (record w { ledger = record l { used = plus l.used q } }) refl
 
-written_alike : {A : Type 0} (w : World) (l : Ledger) (n : ℕ) (before after : Thing) (p q : Counts) (a : A) → EventsAlike (written w n before after p a) (written (under w l) n before after q a)
+written_alike : {A : Type 0} (w : World) (l : Ledger) (n : ℕ) (before after : Thing) (p q : Room) (a : A) → EventsAlike (written w n before after p a) (written (under w l) n before after q a)
 unfolding written
 written_alike w l n before after p q a = by_bool (frozen before)
   where
@@ -55,7 +58,7 @@ apply_alike : (w : World) (l : Ledger) (n : ℕ) (m : Method) (before : ObjectRe
 apply_alike w l n m before answer None = (refl, refl)
 apply_alike w l n m before answer (Some after) =
     let name : Option (List ℕ) = name_added w m before after in
-    let price : Counts = plus (growth before after) (name_cost m name) in
+    let price : Room = plus (growth before after) (name_cost m name) in
     subst (λ t. EventsAlike (apply_outcome w n m before answer (Some after)) (written (with_name t (under w l)) n (AnObject before) (AnObject after) (plus (growth before after) (name_cost m t)) answer)) (sym (added_alike w l m before after))
     (subst (λ v. EventsAlike (apply_outcome w n m before answer (Some after)) (written v n (AnObject before) (AnObject after) price answer)) (sym (name_alike name w l))
     (written_alike (with_name name w) l n (AnObject before) (AnObject after) price price answer))

@@ -2,9 +2,9 @@
 use Rattle.std.proofs.Common.{ℕ, [], ◌∷◌, ◌++◌, length, lit≤}
 use Rattle.js_value.specs.Store.{Store}
 use Rattle.js_value.specs.WellFormed.{AreNumbersBelow, IsThingBelow, IsThingOrderly, IsWellFormed}
-use Rattle.es_model.specs.Laws.{IsWorldWellFormed}
-use Rattle.es_model.proofs.Samples.{blank, realm_of, places, world_of}
-use Rattle.es_model.proofs.WellFormedStores.{empty_well, append_well}
+use Rattle.es_ops.specs.Laws.{IsWorldWellFormed}
+use Rattle.es_ops.proofs.Samples.{blank, realm_of, places, world_of}
+use Rattle.es_ops.proofs.WellFormedStores.{empty_well, append_well}
 
 -- ---- the realm of the rows, thing by thing
 

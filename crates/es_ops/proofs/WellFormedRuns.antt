@@ -3,15 +3,15 @@ use Rattle.std.proofs.Common.{ℕ, zero, suc, ◌<◌, ◌≤◌, Bool, true, fa
 use Rattle.js_value.specs.Value.{Value, Undefined, Null, Boolean, Number, String, Object, Key}
 use Rattle.js_value.specs.Store.{Store, Property, Content, Data, Accessor, object_in, own_property}
 use Rattle.js_value.specs.WellFormed.{IsValueBelow, AreNumbersBelow, IsContentBelow, IsWellFormed}
-use Rattle.es_model.specs.State.{World, State}
-use Rattle.es_model.specs.Ledger.{Event, Happens, Stops}
-use Rattle.es_model.specs.InternalMethods.{property_from, find_property, longest, or_later, SetStep, RefusesSet, DefinesOn, set_own, set_own_content, set_data, set_by_setter, set_content, set_step, value_descriptor, data_descriptor}
-use Rattle.es_model.specs.Events.{Question, reply, TheObject, TheCell, TheMark, TheProperty, TheSetStep, TheIntrinsic, TheInput, perform}
-use Rattle.es_model.specs.Act.{Act, Give, Throw, Halt, Turn, Ask, Do, Call, Try, Completion, NormalCompletion, ThrowCompletion, Ran, Ends, Halts, Calls, with_world, spent, happened, returned, ended, run}
-use Rattle.es_model.specs.Laws.{IfHappens, Grows, IsReplyBelow, IsQuestionBelow, IsStepBelow, IsDescriptorBelow, IsAnswerBelow, IsActBelow, IsCompletionBelow, IsWorldWellFormed, IsRanWellFormed, CallsWell}
-use Rattle.es_model.proofs.Closed.{own_property_below}
-use Rattle.es_model.proofs.Growth.{perform_grows}
-use Rattle.es_model.proofs.WellFormedStores.{perform_well}
+use Rattle.es_ops.specs.State.{World, State}
+use Rattle.es_ops.specs.Ledger.{Event, Happens, Stops}
+use Rattle.es_ops.specs.InternalMethods.{property_from, find_property, longest, or_later, SetStep, RefusesSet, DefinesOn, set_own, set_own_content, set_data, set_by_setter, set_content, set_step, value_descriptor, data_descriptor}
+use Rattle.es_ops.specs.Events.{Question, reply, TheObject, TheCell, TheMark, TheProperty, TheSetStep, TheIntrinsic, TheInput, perform}
+use Rattle.es_ops.specs.Act.{Act, Give, Throw, Halt, Turn, Ask, Do, Call, Try, Completion, NormalCompletion, ThrowCompletion, Ran, Ends, Halts, Calls, with_world, spent, happened, returned, ended, run}
+use Rattle.es_ops.specs.Laws.{IfHappens, Grows, IsReplyBelow, IsQuestionBelow, IsStepBelow, IsDescriptorBelow, IsAnswerBelow, IsActBelow, IsCompletionBelow, IsWorldWellFormed, IsRanWellFormed, CallsWell}
+use Rattle.es_ops.proofs.Closed.{own_property_below}
+use Rattle.es_ops.proofs.Growth.{perform_grows}
+use Rattle.es_ops.proofs.WellFormedStores.{perform_well}
 
 -- ---- answers to questions
 

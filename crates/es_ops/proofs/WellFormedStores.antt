@@ -7,15 +7,18 @@ use Rattle.js_value.specs.Order.{IsName, IsOrderly}
 use Rattle.js_value.specs.WellFormed.{IfValueBelow, AreNumbersBelow, IsContentBelow, IsStateBelow, IsReactionBelow, AreReactionsBelow, IsClassBelow, IsObjectBelow, IsThingBelow, IsThingOrderly, ChainEnds, Ended, Next, IsWellFormed}
 use Rattle.js_value.proofs.Below.{value_more, object_more, if_value_more, numbers_more}
 use Rattle.js_value.proofs.Profile.{string_tested}
-use Rattle.es_model.specs.State.{World, Ledger, Counts, plus, nothing, some_slots, some_units, ModuleState, Job, FulfilJob, RejectJob, ThenableJob}
-use Rattle.es_model.specs.Ledger.{Happens, Full, charged, charged_unless, passed, written, with_thing, first_cost, with_name, name_added, name_cost, growth}
-use Rattle.es_model.specs.InternalMethods.{Method, DefineOwnProperty, Delete, PreventExtensions, SetPrototypeOf, Freeze, apply_method, set_prototype_of, same_prototype, on_chain, longest, refused, unchanged, wrote, prevent_extensions, freeze}
-use Rattle.es_model.specs.Events.{Deed, perform, Make, Apply, Attach, SetCell, SetMark, Settle, AddReaction, Enqueue, Dequeue, AddRejection, RemoveRejection, MakeText, Write, Take, apply_outcome, settle_class, react_class, dequeue, attached, with_prototype, pointing_to, prototype_name}
-use Rattle.es_model.specs.Laws.{IfHappens, IsMethodBelow, IsDeedBelow, IsJobBelow, AreJobsBelow, AreModulesBelow, IsAnswerBelow, AreReactionAnswersBelow, IsJobAnswerBelow, IsWorldWellFormed}
-use Rattle.es_model.proofs.Chains.{set_keeps, append_keeps, set_chain, append_chain, prototype_chain, cut_chain}
-use Rattle.es_model.proofs.Prototypes.{define_prototype, delete_prototype, with_property_prototype}
-use Rattle.es_model.proofs.Closed.{method_below, own_property_below, with_property_below}
-use Rattle.es_model.proofs.Orderly.{HasKey, method_orderly, with_property_orderly}
+use Rattle.js_value.specs.Job.{Job, FulfilJob, RejectJob, ThenableJob}
+use Rattle.js_value.specs.declared.counts.Room.{Room}
+use Rattle.es_ops.specs.State.{World, Ledger, plus, nothing, some_slots, some_units, ModuleState}
+use Rattle.js_value.specs.declared.counts.Full.{Full}
+use Rattle.es_ops.specs.Ledger.{Happens, charged, charged_unless, passed, written, with_thing, first_cost, with_name, name_added, name_cost, growth}
+use Rattle.es_ops.specs.InternalMethods.{Method, DefineOwnProperty, Delete, PreventExtensions, SetPrototypeOf, Freeze, apply_method, set_prototype_of, same_prototype, on_chain, longest, refused, unchanged, wrote, prevent_extensions, freeze}
+use Rattle.es_ops.specs.Events.{Deed, perform, Make, Apply, Attach, SetCell, SetMark, Settle, AddReaction, Enqueue, Dequeue, AddRejection, RemoveRejection, MakeText, Write, Take, apply_outcome, settle_class, react_class, dequeue, attached, with_prototype, pointing_to, prototype_name}
+use Rattle.es_ops.specs.Laws.{IfHappens, IsMethodBelow, IsDeedBelow, IsJobBelow, AreJobsBelow, AreModulesBelow, IsAnswerBelow, AreReactionAnswersBelow, IsJobAnswerBelow, IsWorldWellFormed}
+use Rattle.es_ops.proofs.Chains.{set_keeps, append_keeps, set_chain, append_chain, prototype_chain, cut_chain}
+use Rattle.es_ops.proofs.Prototypes.{define_prototype, delete_prototype, with_property_prototype}
+use Rattle.es_ops.proofs.Closed.{method_below, own_property_below, with_property_below}
+use Rattle.es_ops.proofs.Orderly.{HasKey, method_orderly, with_property_orderly}
 
 -- ---- stores
 
@@ -103,14 +106,14 @@ set_le s n t = let e = length-set s n t in omega arith
 
 -- ---- events
 
-charged_well : {A : Type 0} (P : A → World → Type 0) (price : Counts) (a : A) (v : World) → ((l : Ledger) → P a (record v { ledger = l })) → IfHappens (charged price a v) P
+charged_well : {A : Type 0} (P : A → World → Type 0) (price : Room) (a : A) (v : World) → ((l : Ledger) → P a (record v { ledger = l })) → IfHappens (charged price a v) P
 charged_well P price a v h = by_stop (passed (plus v.ledger.used price) v.ledger.room)
   where
     by_stop : (o : Option Full) → IfHappens (charged_unless o a (record v { ledger = record v.ledger { used = plus v.ledger.used price } })) P
     by_stop None = h (record v.ledger { used = plus v.ledger.used price })
     by_stop (Some full) = tt
 
-written_well : {A : Type 0} (P : A → World → Type 0) (v : World) (n : ℕ) (before after : Thing) (p : Counts) (a : A) → P a v → ((l : Ledger) → P a (record v { store = set v.store n after; ledger = l })) → IfHappens (written v n before after p a) P
+written_well : {A : Type 0} (P : A → World → Type 0) (v : World) (n : ℕ) (before after : Thing) (p : Room) (a : A) → P a v → ((l : Ledger) → P a (record v { store = set v.store n after; ledger = l })) → IfHappens (written v n before after p a) P
 unfolding written
 written_well P v n before after p a same h = by_test (frozen before)
   where
@@ -225,7 +228,7 @@ other_set : (w : World) (n : ℕ) (t : Thing) → IsWorldWellFormed w → IsThin
 other_set w n t h o b e l =
     ledger_well (record w { store = set w.store n t }) l (store_well w (set w.store n t) (set_le w.store n t) h (set_well w.store n t h.store o b (cut_chain w.store n t e)))
 
-other_well : (w : World) (n : ℕ) (before after : Thing) (p : Counts) → IsWorldWellFormed w → IsThingOrderly after → IsThingBelow (length w.store) after → (as_object (Some after)).prototype ≡ None → IfHappens {A = Unit {0}} (written w n before after p tt) (λ a v. IsWorldWellFormed v × (Unit {0}))
+other_well : (w : World) (n : ℕ) (before after : Thing) (p : Room) → IsWorldWellFormed w → IsThingOrderly after → IsThingBelow (length w.store) after → (as_object (Some after)).prototype ≡ None → IfHappens {A = Unit {0}} (written w n before after p tt) (λ a v. IsWorldWellFormed v × (Unit {0}))
 other_well w n before after p h o b e = written_well {A = Unit {0}} (λ a v. IsWorldWellFormed v × (Unit {0})) w n before after p tt (h, tt) (λ l. (other_set w n after h o b e l, tt))
 
 -- ---- a function's `prototype`

@@ -3,20 +3,23 @@ use Rattle.std.proofs.Common.{◌≡◌, ℕ, Bool, true, false, cond, List, [],
 use Rattle.std.proofs.lemmas.Bool.Decides.{nat_tests}
 use Rattle.js_value.specs.Value.{Text}
 use Rattle.js_value.specs.Store.{Thing, AnObject, ACell, AMark, ObjectRecord, Class, Promise, PromiseState, Pending, Fulfilled, Rejected, Ordinary, Array, ScriptFunction, BuiltInFunction, ResolveFunction, RejectFunction, Error, Reaction, frozen, size, object_in, cell_in, mark_in}
-use Rattle.es_model.specs.State.{World, Counts, plus, nothing, some_slots, some_units, Job}
-use Rattle.es_model.specs.Ledger.{Event, Happens, Slots, Units, Names, charged, charged_unless, written, with_thing, first_cost, with_name, name_added, name_cost, growth}
-use Rattle.es_model.specs.InternalMethods.{Method, apply_method}
-use Rattle.es_model.specs.Events.{Deed, perform, Make, Apply, Attach, SetCell, SetMark, Settle, AddReaction, Enqueue, Dequeue, AddRejection, RemoveRejection, MakeText, Write, Take, apply_outcome, settle_class, react_class, dequeue}
-use Rattle.es_model.specs.Laws.{IfHappens, IsWithinRoom}
+use Rattle.js_value.specs.Job.{Job}
+use Rattle.js_value.specs.declared.counts.Room.{Room}
+use Rattle.es_ops.specs.State.{World, plus, nothing, some_slots, some_units}
+use Rattle.js_value.specs.declared.counts.Full.TheVariants.{Slots, Units, Names}
+use Rattle.es_ops.specs.Ledger.{Event, Happens, charged, charged_unless, written, with_thing, first_cost, with_name, name_added, name_cost, growth}
+use Rattle.es_ops.specs.InternalMethods.{Method, apply_method}
+use Rattle.es_ops.specs.Events.{Deed, perform, Make, Apply, Attach, SetCell, SetMark, Settle, AddReaction, Enqueue, Dequeue, AddRejection, RemoveRejection, MakeText, Write, Take, apply_outcome, settle_class, react_class, dequeue}
+use Rattle.es_ops.specs.Laws.{IfHappens, IsWithinRoom}
 
 Within : {A : Type 0} → Event A → Type 0
 Within e = IfHappens e (λ a v. IsWithinRoom v.ledger)
 
-charged_within : {A : Type 0} (price : Counts) (a : A) (v : World) → Within (charged price a v)
+charged_within : {A : Type 0} (price : Room) (a : A) (v : World) → Within (charged price a v)
 unfolding Within
 charged_within {A} price a v = by_units (nat_lt v.ledger.room.units used.units) (nat_lt v.ledger.room.names used.names) (nat_lt v.ledger.room.slots used.slots) refl refl refl
   where
-    used : Counts
+    used : Room
     used = plus v.ledger.used price
 
     by_units : (b c d : Bool) → nat_lt v.ledger.room.units used.units ≡ b → nat_lt v.ledger.room.names used.names ≡ c → nat_lt v.ledger.room.slots used.slots ≡ d
@@ -26,7 +29,7 @@ charged_within {A} price a v = by_units (nat_lt v.ledger.room.units used.units) 
     by_units false false true p q r = tt
     by_units false false false p q r = record { slots = grind (arith, nat_tests); units = grind (arith, nat_tests); names = grind (arith, nat_tests) }
 
-written_within : {A : Type 0} (v : World) (n : ℕ) (before after : Thing) (p : Counts) (a : A) → IsWithinRoom v.ledger → Within (written v n before after p a)
+written_within : {A : Type 0} (v : World) (n : ℕ) (before after : Thing) (p : Room) (a : A) → IsWithinRoom v.ledger → Within (written v n before after p a)
 unfolding written Within
 written_within v n before after p a h = by_test (frozen before)
   where

@@ -6,19 +6,19 @@ use Rattle.js_value.specs.Store.{Property, is_length_of}
 use Rattle.js_value.specs.Order.{IsString, IsKey}
 use Rattle.js_value.specs.WellFormed.{IsValueBelow, IfValueBelow, IsContentBelow}
 use Rattle.js_value.proofs.Below.{value_more, if_value_more}
-use Rattle.es_model.specs.Equality.{is_strictly_equal}
-use Rattle.es_model.specs.Messages.{InvalidArrayLength, NoProperties, NotWritable, NotDefinable, NotDeletable, AccessorOnIndex, NotInitialised, AssignmentToConstant}
-use Rattle.es_model.specs.InternalMethods.{PropertyDescriptor, data_descriptor, is_accessor_descriptor, DefineOwnProperty, SetStep, RefusesSet, CallsSetter, DefinesOn}
-use Rattle.es_model.specs.Events.{SetCell, Apply}
-use Rattle.es_model.specs.Act.{Act, Do}
-use Rattle.es_model.specs.Errors.{raise}
-use Rattle.es_model.specs.PropertyReads.{StringProperty, AUnit, Length, Inherits, string_property}
-use Rattle.es_model.specs.Conversions.{DefaultHint, to_number, number_expected, Comparison, Equals, NumberLeft, NumberRight, PrimitiveLeft, PrimitiveRight, comparison, next_comparison, loosely_equal_within, is_loosely_equal}
-use Rattle.es_model.specs.PropertyWrites.{NumberConversion, length_or_raise, with_length_value, define_own_property, define_property_or_throw, create_data_property, create_data_property_or_throw, accepted_or, take_set_step, set_found, ordinary_set, set_inherited, set_on_string, set_v, set_or_throw, put_value, delete_property_or_throw, delete_on_string, delete_v}
-use Rattle.es_model.specs.Bindings.{make_cell, initialize_cell, value_or_raise, read_cell, write_cell, copy_cell}
-use Rattle.es_model.specs.Laws.{IsDescriptorBelow, IsStepBelow, IsActBelow}
-use Rattle.es_model.specs.Operations.{Later, AnyBool, AThing, IsConversionBelow}
-use Rattle.es_model.proofs.ActsBelow.{later_more, act_more, cond_below, raise_below, to_primitive_below, to_number_below, number_expected_below}
+use Rattle.es_ops.specs.Equality.{is_strictly_equal}
+use Rattle.es_ops.specs.Messages.{InvalidArrayLength, NoProperties, NotWritable, NotDefinable, NotDeletable, AccessorOnIndex, NotInitialised, AssignmentToConstant}
+use Rattle.es_ops.specs.InternalMethods.{PropertyDescriptor, data_descriptor, is_accessor_descriptor, DefineOwnProperty, SetStep, RefusesSet, CallsSetter, DefinesOn}
+use Rattle.es_ops.specs.Events.{SetCell, Apply}
+use Rattle.es_ops.specs.Act.{Act, Do}
+use Rattle.es_ops.specs.Errors.{raise}
+use Rattle.es_ops.specs.PropertyReads.{StringProperty, AUnit, Length, Inherits, string_property}
+use Rattle.es_ops.specs.Conversions.{DefaultHint, to_number, number_expected, Comparison, Equals, NumberLeft, NumberRight, PrimitiveLeft, PrimitiveRight, comparison, next_comparison, loosely_equal_within, is_loosely_equal}
+use Rattle.es_ops.specs.PropertyWrites.{NumberConversion, length_or_raise, with_length_value, define_own_property, define_property_or_throw, create_data_property, create_data_property_or_throw, accepted_or, take_set_step, set_found, ordinary_set, set_inherited, set_on_string, set_v, set_or_throw, put_value, delete_property_or_throw, delete_on_string, delete_v}
+use Rattle.es_ops.specs.Bindings.{make_cell, initialize_cell, value_or_raise, read_cell, write_cell, copy_cell}
+use Rattle.es_ops.specs.Laws.{IsDescriptorBelow, IsStepBelow, IsActBelow}
+use Rattle.es_ops.specs.Operations.{Later, AnyBool, AThing, IsConversionBelow}
+use Rattle.es_ops.proofs.ActsBelow.{later_more, act_more, cond_below, raise_below, to_primitive_below, to_number_below, number_expected_below}
 
 -- ---- bindings
 

@@ -2,9 +2,9 @@
 -- go on with what it returned. It sees neither meter nor depth, and it runs over any way of calling.
 use Rattle.std.specs.Prelude.{ℕ, zero, suc, List, Option}
 use Rattle.js_value.specs.Value.{Value}
-use Rattle.es_model.specs.State.{World, State}
-use Rattle.es_model.specs.Ledger.{Event, Happens, Stops, Stop, Budget, OutOf}
-use Rattle.es_model.specs.Events.{Question, Reply, reply, Deed, Answer, perform}
+use Rattle.es_ops.specs.State.{World, State}
+use Rattle.es_ops.specs.Ledger.{Event, Happens, Stops, Stop, Budget, OutOf}
+use Rattle.es_ops.specs.Events.{Question, Reply, reply, Deed, Answer, perform}
 
 -- completions (ECMA-262 6.2.4) of a call
 pub data Completion : Type 0 where

@@ -2,10 +2,10 @@
 use Rattle.std.specs.Prelude.{ℕ, Bool, cond, Option, Some, None}
 use Rattle.js_value.specs.Value.{Value}
 use Rattle.js_value.specs.Store.{ACell}
-use Rattle.es_model.specs.Messages.{NotInitialised, AssignmentToConstant}
-use Rattle.es_model.specs.Events.{TheCell, Make, SetCell}
-use Rattle.es_model.specs.Act.{Act, Ask, Do}
-use Rattle.es_model.specs.Errors.{raise}
+use Rattle.es_ops.specs.Messages.{NotInitialised, AssignmentToConstant}
+use Rattle.es_ops.specs.Events.{TheCell, Make, SetCell}
+use Rattle.es_ops.specs.Act.{Act, Ask, Do}
+use Rattle.es_ops.specs.Errors.{raise}
 
 -- CreateMutableBinding, CreateImmutableBinding (9.1.1.1.2, 9.1.1.1.3): a cell that isn't initialised
 unfoldable pub make_cell : (const : Bool) → (ℕ → Act) → Act

@@ -2,11 +2,11 @@
 use Rattle.std.specs.Prelude.{ℕ, zero, suc, Bool, true, false, cond, [], ℤ, pos, Option, Some, None, codes}
 use Rattle.js_value.specs.Value.{Value, Undefined, Null, Boolean, Number, String, Object, is_object, Text, Key, Named, key_of_text, key_of_number}
 use Rattle.js_value.specs.NumberText.{number_of_text, text_of_number}
-use Rattle.es_model.specs.Equality.{is_strictly_equal}
-use Rattle.es_model.specs.Messages.{NumberOutOfRange, NoPrimitiveValue, PrimitiveExpected}
-use Rattle.es_model.specs.Act.{Act, Call}
-use Rattle.es_model.specs.Errors.{raise}
-use Rattle.es_model.specs.PropertyReads.{get, is_callable}
+use Rattle.es_ops.specs.Equality.{is_strictly_equal}
+use Rattle.es_ops.specs.Messages.{NumberOutOfRange, NoPrimitiveValue, PrimitiveExpected}
+use Rattle.es_ops.specs.Act.{Act, Call}
+use Rattle.es_ops.specs.Errors.{raise}
+use Rattle.es_ops.specs.PropertyReads.{get, is_callable}
 
 -- ToBoolean (7.1.2)
 abbrev pub to_boolean : Value → Bool

@@ -2,9 +2,9 @@
 use Rattle.std.specs.Prelude.{ℕ, true, false, cond, [], ◌∷◌, length, nat_lt, Some, codes}
 use Rattle.js_value.specs.Value.{Value, Object, String, Text}
 use Rattle.js_value.specs.Store.{AnObject, ObjectRecord, Error, Property, Data}
-use Rattle.es_model.specs.Messages.{Message, StringTooLong, ErrorKind, RangeError, ReferenceError, TypeError, kind_of_message, text_of_message}
-use Rattle.es_model.specs.Events.{TheIntrinsic, Make, MakeText}
-use Rattle.es_model.specs.Act.{Act, Throw, Ask, Do}
+use Rattle.es_ops.specs.Messages.{Message, StringTooLong, ErrorKind, RangeError, ReferenceError, TypeError, kind_of_message, text_of_message}
+use Rattle.es_ops.specs.Events.{TheIntrinsic, Make, MakeText}
+use Rattle.es_ops.specs.Act.{Act, Throw, Ask, Do}
 
 -- ---- the intrinsic objects that are named here, by their places in the realm (ECMA-262 6.1.7.4)
 

@@ -2,9 +2,10 @@
 use Rattle.std.specs.Prelude.{ℕ, Bool, true, not, List, [], ◌∷◌, ◌++◌, length, ◌==◌, Option, Some, None, get_or, set, slice_get, filter, codes}
 use Rattle.js_value.specs.Value.{Value, Object, Text, Key, Named}
 use Rattle.js_value.specs.Store.{Store, Thing, AnObject, ACell, AMark, ObjectRecord, CellRecord, Property, Content, Data, Accessor, Class, Promise, PromiseState, Pending, Reaction, object_in, cell_in, mark_in, own_property, with_property, size}
-use Rattle.es_model.specs.State.{World, nothing, some_slots, some_units, plus, Job, Wrote, Took}
-use Rattle.es_model.specs.InternalMethods.{Method, apply_method, find_property, SetStep, set_step}
-use Rattle.es_model.specs.Ledger.{Event, Happens, charged, written, with_name, name_added, name_cost, growth}
+use Rattle.js_value.specs.Job.{Job}
+use Rattle.es_ops.specs.State.{World, nothing, some_slots, some_units, plus, Wrote, Took}
+use Rattle.es_ops.specs.InternalMethods.{Method, apply_method, find_property, SetStep, set_step}
+use Rattle.es_ops.specs.Ledger.{Event, Happens, charged, written, with_name, name_added, name_cost, growth}
 
 -- ---- questions
 

@@ -1,8 +1,8 @@
 -- The host module: what a run asks of the outside, and how a line is written. Own rules.
 use Rattle.std.specs.Prelude.{ℕ, zero, suc, List, [], ◌∷◌, ◌++◌, length, drop, map}
 use Rattle.js_value.specs.Text.{piece, utf8}
-use Rattle.es_model.specs.Tree.{Text}
-use Rattle.es_model.specs.State.{TraceEvent, Wrote, Took}
+use Rattle.js_value.specs.Value.{Text}
+use Rattle.es_ops.specs.State.{TraceEvent, Wrote, Took}
 
 -- the bytes that a trace has written
 abbrev pub written : List TraceEvent → List ℕ

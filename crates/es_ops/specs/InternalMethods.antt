@@ -4,7 +4,7 @@ use Rattle.std.specs.Prelude.{ℕ, zero, suc, Bool, true, false, cond, not, ◌&
 use Rattle.std.specs.Option.{option_map_or}
 use Rattle.js_value.specs.Value.{Value, Undefined, Number, Object, same_text, Key, Index, Named, is_index, text_of_key}
 use Rattle.js_value.specs.Store.{Store, Content, Data, Accessor, Property, Class, Array, ObjectRecord, object_in, own_property, with_property, without_property, length_name}
-use Rattle.es_model.specs.Equality.{same_value, same_bool}
+use Rattle.es_ops.specs.Equality.{same_value, same_bool}
 
 -- ---- property descriptors (6.2.6)
 

@@ -2,13 +2,13 @@
 use Rattle.std.specs.Prelude.{ℕ, true, false, cond, List, [], ◌∷◌, pos, Option, Some, None, codes}
 use Rattle.js_value.specs.Value.{Value, Undefined, Number, String, Object, Named}
 use Rattle.js_value.specs.Store.{AnObject, AMark, ObjectRecord, Class, ResolveFunction, RejectFunction, Promise, Pending, Fulfilled, Rejected, Reaction, Property, Data, length_name}
-use Rattle.es_model.specs.Equality.{same_value}
-use Rattle.es_model.specs.State.{Job, FulfilJob, RejectJob, ThenableJob}
-use Rattle.es_model.specs.Messages.{ResolvedWithItself}
-use Rattle.es_model.specs.Events.{TheObject, TheMark, TheIntrinsic, Make, SetMark, Settle, AddReaction, Enqueue, Dequeue, AddRejection, RemoveRejection}
-use Rattle.es_model.specs.Act.{Act, Give, Turn, Ask, Do, Try, Completion, NormalCompletion, ThrowCompletion, completed}
-use Rattle.es_model.specs.Errors.{make_error, function_prototype, promise_prototype}
-use Rattle.es_model.specs.PropertyReads.{get, is_callable}
+use Rattle.es_ops.specs.Equality.{same_value}
+use Rattle.js_value.specs.Job.{Job, FulfilJob, RejectJob, ThenableJob}
+use Rattle.es_ops.specs.Messages.{ResolvedWithItself}
+use Rattle.es_ops.specs.Events.{TheObject, TheMark, TheIntrinsic, Make, SetMark, Settle, AddReaction, Enqueue, Dequeue, AddRejection, RemoveRejection}
+use Rattle.es_ops.specs.Act.{Act, Give, Turn, Ask, Do, Try, Completion, NormalCompletion, ThrowCompletion, completed}
+use Rattle.es_ops.specs.Errors.{make_error, function_prototype, promise_prototype}
+use Rattle.es_ops.specs.PropertyReads.{get, is_callable}
 
 -- ---- settling
 

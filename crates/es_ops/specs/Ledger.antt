@@ -3,16 +3,13 @@ use Rattle.std.specs.Prelude.{ℕ, ◌-◌, Bool, cond, [], ◌∷◌, ◌++◌,
 use Rattle.std.specs.List.{list_any}
 use Rattle.js_value.specs.Value.{Text, Key, Index, Numeral, same_text, text_of_key}
 use Rattle.js_value.specs.Store.{Thing, ObjectRecord, object_size, frozen}
-use Rattle.es_model.specs.State.{World, Counts, plus, nothing, some_slots}
-use Rattle.es_model.specs.InternalMethods.{Method, DefineOwnProperty}
+use Rattle.js_value.specs.declared.counts.Room.{Room}
+use Rattle.js_value.specs.declared.counts.Full.{Full}
+use Rattle.js_value.specs.declared.counts.Full.TheVariants.{Slots, Units, Names}
+use Rattle.es_ops.specs.State.{World, plus, nothing, some_slots}
+use Rattle.es_ops.specs.InternalMethods.{Method, DefineOwnProperty}
 
 -- ---- what stops a run
-
--- the limits of the ledger
-pub data Full : Type 0 where
-  Slots : Full
-  Units : Full
-  Names : Full
 
 pub data Stop : Type 0 where
   Budget : Stop
@@ -27,7 +24,7 @@ pub data Event (A : Type 0) : Type 0 where
   Stops : Full → Event A
 
 -- the limit that these counts pass; units are tested first, then names, then slots
-abbrev pub passed : (used room : Counts) → Option Full
+abbrev pub passed : (used room : Room) → Option Full
 passed used room =
     cond (nat_lt room.units used.units) (Some Units)
     (cond (nat_lt room.names used.names) (Some Names)
@@ -38,7 +35,7 @@ charged_unless None a w = Happens a w
 charged_unless (Some full) a w = Stops full
 
 -- an event that costs a price and leaves a world
-abbrev pub charged : {A : Type 0} → Counts → A → World → Event A
+abbrev pub charged : {A : Type 0} → Room → A → World → Event A
 charged price a w =
     let used = plus w.ledger.used price in
     charged_unless (passed used w.ledger.room) a (record w { ledger = record w.ledger { used = used } })
@@ -50,10 +47,10 @@ charged price a w =
 abbrev pub with_thing : World → ℕ → Thing → World
 with_thing w n t = record w { store = set w.store n t; ledger = record w.ledger { first_costs = set w.ledger.first_costs n 0 } }
 
-abbrev pub first_cost : World → ℕ → Counts
+abbrev pub first_cost : World → ℕ → Room
 first_cost w n = some_slots (get_or w.ledger.first_costs n 0)
 
-unfoldable pub written : {A : Type 0} → World → ℕ → (before after : Thing) → (added : Counts) → A → Event A
+unfoldable pub written : {A : Type 0} → World → ℕ → (before after : Thing) → (added : Room) → A → Event A
 written w n before after added a = cond (frozen before) (Happens a w)
     (charged (plus (first_cost w n) added) a (with_thing w n after))
 
@@ -67,7 +64,7 @@ abbrev pub new_name : World → Key → Option Text
 new_name w (Index i) = None
 new_name w key = cond (is_name w (text_of_key key)) None (Some (text_of_key key))
 
-abbrev pub name_price : Key → Option Text → Counts
+abbrev pub name_price : Key → Option Text → Room
 name_price key None = nothing
 name_price (Numeral n) (Some t) = record { slots = 0; units = length t; names = 1 }
 name_price key (Some t) = record { slots = 0; units = 0; names = 1 }
@@ -84,10 +81,10 @@ abbrev pub name_added : World → Method → (before after : ObjectRecord) → O
 name_added w (DefineOwnProperty key d) before after = cond (created before after) (new_name w key) None
 name_added w m before after = None
 
-abbrev pub name_cost : Method → Option Text → Counts
+abbrev pub name_cost : Method → Option Text → Room
 name_cost (DefineOwnProperty key d) t = name_price key t
 name_cost m t = nothing
 
 -- the slots that an object grows by
-abbrev pub growth : (before after : ObjectRecord) → Counts
+abbrev pub growth : (before after : ObjectRecord) → Room
 growth before after = some_slots (object_size after - object_size before)

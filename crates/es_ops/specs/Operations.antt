@@ -6,17 +6,17 @@ use Rattle.js_value.specs.Value.{Value, Text, Key}
 use Rattle.js_value.specs.Store.{Property}
 use Rattle.js_value.specs.Order.{IsString, IsKey}
 use Rattle.js_value.specs.WellFormed.{IsValueBelow, IsContentBelow}
-use Rattle.es_model.specs.State.{Job}
-use Rattle.es_model.specs.InternalMethods.{PropertyDescriptor}
-use Rattle.es_model.specs.Messages.{Message}
-use Rattle.es_model.specs.Act.{Act}
-use Rattle.es_model.specs.Errors.{make_error, raise, make_text}
-use Rattle.es_model.specs.PropertyReads.{is_callable, property_value, get, has_property, get_v}
-use Rattle.es_model.specs.Conversions.{Hint, to_primitive, to_number, to_string, to_property_key, number_expected, text_expected, key_expected, is_loosely_equal}
-use Rattle.es_model.specs.PropertyWrites.{NumberConversion, define_own_property, define_property_or_throw, create_data_property, create_data_property_or_throw, ordinary_set, set_v, set_or_throw, put_value, delete_property_or_throw, delete_v}
-use Rattle.es_model.specs.Bindings.{make_cell, initialize_cell, read_cell, write_cell, copy_cell}
-use Rattle.es_model.specs.Jobs.{fulfil_promise, reject_promise, resolve_promise, create_resolving_functions, call_resolve_function, call_reject_function, make_promise, perform_promise_then, promise_then, run_job, run_first_job}
-use Rattle.es_model.specs.Laws.{IsDescriptorBelow, IsJobBelow, IsActBelow}
+use Rattle.js_value.specs.Job.{Job}
+use Rattle.es_ops.specs.InternalMethods.{PropertyDescriptor}
+use Rattle.es_ops.specs.Messages.{Message}
+use Rattle.es_ops.specs.Act.{Act}
+use Rattle.es_ops.specs.Errors.{make_error, raise, make_text}
+use Rattle.es_ops.specs.PropertyReads.{is_callable, property_value, get, has_property, get_v}
+use Rattle.es_ops.specs.Conversions.{Hint, to_primitive, to_number, to_string, to_property_key, number_expected, text_expected, key_expected, is_loosely_equal}
+use Rattle.es_ops.specs.PropertyWrites.{NumberConversion, define_own_property, define_property_or_throw, create_data_property, create_data_property_or_throw, ordinary_set, set_v, set_or_throw, put_value, delete_property_or_throw, delete_v}
+use Rattle.es_ops.specs.Bindings.{make_cell, initialize_cell, read_cell, write_cell, copy_cell}
+use Rattle.es_ops.specs.Jobs.{fulfil_promise, reject_promise, resolve_promise, create_resolving_functions, call_resolve_function, call_reject_function, make_promise, perform_promise_then, promise_then, run_job, run_first_job}
+use Rattle.es_ops.specs.Laws.{IsDescriptorBelow, IsJobBelow, IsActBelow}
 
 -- ---- the operations, each with what comes after it
 

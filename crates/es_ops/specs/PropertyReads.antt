@@ -2,10 +2,10 @@
 use Rattle.std.specs.Prelude.{ℕ, Bool, false, cond, [], ◌∷◌, length, pos, Option, Some, None, is_some, slice_get}
 use Rattle.js_value.specs.Value.{Value, Undefined, Boolean, Number, String, Object, Text, same_text, Key, Index, text_of_key}
 use Rattle.js_value.specs.Store.{Content, Data, Accessor, Property, callable_class, length_name}
-use Rattle.es_model.specs.Messages.{NoProperties}
-use Rattle.es_model.specs.Events.{TheObject, TheProperty, TheIntrinsic}
-use Rattle.es_model.specs.Act.{Act, Ask, Call}
-use Rattle.es_model.specs.Errors.{raise, make_text, boolean_prototype, number_prototype, string_prototype}
+use Rattle.es_ops.specs.Messages.{NoProperties}
+use Rattle.es_ops.specs.Events.{TheObject, TheProperty, TheIntrinsic}
+use Rattle.es_ops.specs.Act.{Act, Ask, Call}
+use Rattle.es_ops.specs.Errors.{raise, make_text, boolean_prototype, number_prototype, string_prototype}
 
 -- IsCallable (ECMA-262 7.2.3)
 unfoldable pub is_callable : Value → (Bool → Act) → Act

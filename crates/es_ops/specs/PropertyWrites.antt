@@ -2,13 +2,13 @@
 use Rattle.std.specs.Prelude.{ℕ, Bool, true, false, cond, not, ◌&&◌, [], ◌∷◌, ℤ, pos, negsuc, nat_lt, Option, Some, None}
 use Rattle.js_value.specs.Value.{Value, Undefined, Null, Boolean, Number, String, Object, Text, Key, is_index, text_of_key}
 use Rattle.js_value.specs.Store.{Property, is_length_of}
-use Rattle.es_model.specs.InternalMethods.{PropertyDescriptor, data_descriptor, is_accessor_descriptor, DefineOwnProperty, Delete, SetStep, RefusesSet, CallsSetter, DefinesOn}
-use Rattle.es_model.specs.Messages.{InvalidArrayLength, NoProperties, NotWritable, NotDefinable, NotDeletable, AccessorOnIndex}
-use Rattle.es_model.specs.Events.{TheObject, TheProperty, TheSetStep, TheIntrinsic, Apply}
-use Rattle.es_model.specs.Act.{Act, Ask, Do, Call}
-use Rattle.es_model.specs.Errors.{raise, boolean_prototype, number_prototype, string_prototype}
-use Rattle.es_model.specs.PropertyReads.{StringProperty, Inherits, string_property}
-use Rattle.es_model.specs.Conversions.{to_number, number_expected}
+use Rattle.es_ops.specs.InternalMethods.{PropertyDescriptor, data_descriptor, is_accessor_descriptor, DefineOwnProperty, Delete, SetStep, RefusesSet, CallsSetter, DefinesOn}
+use Rattle.es_ops.specs.Messages.{InvalidArrayLength, NoProperties, NotWritable, NotDefinable, NotDeletable, AccessorOnIndex}
+use Rattle.es_ops.specs.Events.{TheObject, TheProperty, TheSetStep, TheIntrinsic, Apply}
+use Rattle.es_ops.specs.Act.{Act, Ask, Do, Call}
+use Rattle.es_ops.specs.Errors.{raise, boolean_prototype, number_prototype, string_prototype}
+use Rattle.es_ops.specs.PropertyReads.{StringProperty, Inherits, string_property}
+use Rattle.es_ops.specs.Conversions.{to_number, number_expected}
 
 -- How a value for an array's `length` becomes a number: operators convert it (to_number), and built-ins take no
 -- object (number_expected). Own rule: it is converted once.

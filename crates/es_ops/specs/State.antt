@@ -1,15 +1,9 @@
 -- What a run holds. Operations see and change the world; the meter and the depth belong to calls.
 use Rattle.std.specs.Prelude.{ℕ, ◌+◌, ◌-◌, ◌*◌, Bool, true, false, List, [], length, map, sum_by, Option}
-use Rattle.js_value.specs.Value.{Value, Text}
+use Rattle.js_value.specs.Value.{Text}
 use Rattle.js_value.specs.Store.{Store, size}
-
--- ---- jobs (ECMA-262 9.5)
-
--- NewPromiseReactionJob (27.2.2.1) for a promise that was fulfilled or rejected, and NewPromiseResolveThenableJob (27.2.2.2)
-pub data Job : Type 0 where
-  FulfilJob : (handler : Value) → (derived : ℕ) → (argument : Value) → Job
-  RejectJob : (handler : Value) → (derived : ℕ) → (argument : Value) → Job
-  ThenableJob : (promise : ℕ) → (thenable next : Value) → Job
+use Rattle.js_value.specs.Job.{Job}
+use Rattle.js_value.specs.declared.counts.Room.{Room}
 
 -- ---- modules
 
@@ -32,21 +26,16 @@ pub data TraceEvent : Type 0 where
 
 -- ---- the ledger's counts (own)
 
-pub record Counts : Type 0 where
-  pub slots : ℕ
-  pub units : ℕ
-  pub names : ℕ
-
-abbrev pub nothing : Counts
+abbrev pub nothing : Room
 nothing = record { slots = 0; units = 0; names = 0 }
 
-abbrev pub some_slots : ℕ → Counts
+abbrev pub some_slots : ℕ → Room
 some_slots n = record { slots = n; units = 0; names = 0 }
 
-abbrev pub some_units : ℕ → Counts
+abbrev pub some_units : ℕ → Room
 some_units n = record { slots = 0; units = n; names = 0 }
 
-abbrev pub plus : Counts → Counts → Counts
+abbrev pub plus : Room → Room → Room
 plus a b = record { slots = a.slots + b.slots; units = a.units + b.units; names = a.names + b.names }
 
 -- first writes are counted by `run` and `resume`, and not by `link`, `boot` and `eval`
@@ -60,14 +49,14 @@ pub record Limits : Type 0 where
 abbrev pub most_names : ℕ
 most_names = 65535
 
-abbrev pub room_of : Limits → (known : List Text) → Counts
+abbrev pub room_of : Limits → (known : List Text) → Room
 room_of limits known = record { slots = limits.slots; units = limits.units; names = most_names - length known }
 
 -- the ledger: what was used, the limits, and for each thing what its next write costs first: its size at the start
 -- until it is written, then 0, and 0 for things that were made since (or for all, where first writes aren't counted)
 pub record Ledger : Type 0 where
-  pub used : Counts
-  pub room : Counts
+  pub used : Room
+  pub room : Room
   pub first_costs : List ℕ
 
 -- ---- the world
@@ -94,5 +83,5 @@ costs_at_start true s = map size s
 costs_at_start false s = []
 
 -- the counts with which `resume` starts: the snapshot's slots and four for each job, its units with those of its names, its names
-abbrev pub counts_at_resume : (slots units : ℕ) → (names : List Text) → List Job → Counts
+abbrev pub counts_at_resume : (slots units : ℕ) → (names : List Text) → List Job → Room
 counts_at_resume slots units names jobs = record { slots = slots + 4 * length jobs; units = units + sum_by length names; names = length names }

@@ -7,7 +7,7 @@ use Rattle.slot_heap.specs.declared.slot.Slot.{Slot}
 use Rattle.slot_heap.specs.declared.slot.Kind.{Kind}
 use Rattle.slot_heap.specs.declared.slot.Kind.TheVariants as kind
 use Rattle.slot_heap.specs.declared.slot.Job.{Job}
-use Rattle.slot_heap.specs.declared.slot.Room.{Room}
+use Rattle.js_value.specs.declared.counts.Room.{Room}
 use Rattle.slot_heap.specs.Slot.{blank, byte_of, four_bytes, head_slot, is_object_kind, value_in, stored}
 use Rattle.slot_heap.specs.Chains.{cell}
 use Rattle.slot_heap.specs.Shown.{is_thing, cells}

@@ -1,8 +1,8 @@
 -- The definitions on small heaps, by computing.
 use Rattle.std.proofs.Common.{◌≡◌, ℕ, true, false, [], ◌∷◌, refl, Some, None, negsuc}
 use Rattle.slot_heap.specs.declared.slot.Slot.{Slot}
-use Rattle.slot_heap.specs.declared.slot.Room.{Room}
-use Rattle.slot_heap.specs.declared.slot.Full.TheVariants as full
+use Rattle.js_value.specs.declared.counts.Room.{Room}
+use Rattle.js_value.specs.declared.counts.Full.TheVariants as full
 use Rattle.slot_heap.specs.declared.slot.Kind.TheVariants.{Object, Cell}
 use Rattle.slot_heap.specs.declared.slot.Value.TheVariants.{Number}
 use Rattle.slot_heap.specs.Slot.{head_slot, stored, value_in, with_value}

@@ -5,7 +5,7 @@ use Rattle.std.specs.Prelude.{IsTrue, option_to_list}
 use Rattle.std.proofs.lemmas.List.{append-nil}
 use Rattle.std.proofs.lemmas.List.Elements.{All-nil, All-push, All-tail}
 use Rattle.slot_heap.specs.declared.slot.Job.{Job}
-use Rattle.slot_heap.specs.declared.slot.Room.{Room}
+use Rattle.js_value.specs.declared.counts.Room.{Room}
 use Rattle.slot_heap.specs.Shown.{low, is_thing, cells, shown}
 use Rattle.slot_heap.specs.Chains.{shown_in}
 use Rattle.slot_heap.specs.Queue.{Queue}

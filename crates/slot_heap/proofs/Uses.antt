@@ -3,7 +3,7 @@ use Rattle.std.proofs.Common.{◌≡◌, ◌≢◌, ℕ, suc, zero, ◌<◌, ◌
 use Rattle.std.specs.List.{slice_get, insert}
 use Rattle.std.proofs.lemmas.List.{length-map}
 use Rattle.slot_heap.specs.declared.slot.Slot.{Slot}
-use Rattle.slot_heap.specs.declared.slot.Room.{Room}
+use Rattle.js_value.specs.declared.counts.Room.{Room}
 use Rattle.slot_heap.specs.Held.{Held, Holds, spare}
 use Rattle.slot_heap.specs.Chains.{cells_at}
 use Rattle.slot_heap.specs.Shown.{Low, next_address, places, cells, Stands}

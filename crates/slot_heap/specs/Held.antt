@@ -2,9 +2,9 @@
 use Rattle.std.specs.Prelude.{◌≡◌, ◌⊎◌, ◌==◌, ℕ, ◌+◌, ◌-◌, ◌*◌, ◌/◌, ◌≤◌, ◌<◌, ◌^◌, false, cond, nat_lt, List, [], ◌∷◌, ◌++◌, length, Option, Some, None}
 use Prim.Native.Nat.{zero, suc}
 use Rattle.slot_heap.specs.declared.slot.Slot.{Slot}
-use Rattle.slot_heap.specs.declared.slot.Room.{Room}
-use Rattle.slot_heap.specs.declared.slot.Full.{Full}
-use Rattle.slot_heap.specs.declared.slot.Full.TheVariants as full
+use Rattle.js_value.specs.declared.counts.Room.{Room}
+use Rattle.js_value.specs.declared.counts.Full.{Full}
+use Rattle.js_value.specs.declared.counts.Full.TheVariants as full
 use Rattle.slot_heap.specs.Queue.{Queue}
 use Rattle.slot_heap.specs.Shown.{Low, low}
 use Rattle.slot_heap.specs.Texts.{NoName, word_of, Words, words}

@@ -15,9 +15,10 @@ ghost use Rattle.slot_heap.specs.Sound.{IsJob, Sound};
 use super::jobs::Jobs;
 use super::reserve::Reserve;
 use super::rom::Rom;
-use super::slot::{Full, Job, Kind, Ref, Room, Slot, SlotAt, Value};
+use super::slot::{Job, Kind, Ref, Slot, SlotAt, Value};
 use super::slots::Slots;
 use super::texts::Texts;
+use js_value::{Full, Room};
 use std::marker::Model;
 
 /// The store of a machine. After its start it takes no memory.

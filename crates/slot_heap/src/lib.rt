@@ -10,9 +10,10 @@ mod slots;
 mod texts;
 
 pub use heap::Heap;
+pub use js_value::{Full, Room};
 pub use reserve::Reserve;
 pub use rom::Rom;
-pub use slot::{Full, Job, Key, Kind, Ref, Room, Slot, SlotAt, Value};
+pub use slot::{Job, Key, Kind, Ref, Slot, SlotAt, Value};
 
 #[cfg(test)]
 mod tests;

@@ -6,9 +6,9 @@ ghost use Rattle.slot_heap.specs.Shown.{low};
 ghost use Rattle.slot_heap.specs.Texts.{words};
 
 use super::jobs::Jobs;
-use super::slot::Room;
 use super::slots::Slots;
 use super::texts::Texts;
+use js_value::Room;
 use std::alloc::{AllocError, Global};
 use std::marker::Model;
 

@@ -74,22 +74,6 @@ pub struct Job {
     pub values: [Value; 3],
 }
 
-/// Numbers of slots, of 16-bit units and of names.
-#[derive(Clone, Copy, Debug, PartialEq, Eq)]
-pub struct Room {
-    pub slots: u32,
-    pub units: u32,
-    pub names: u32,
-}
-
-/// The limit that an event would pass.
-#[derive(Clone, Copy, Debug, PartialEq, Eq)]
-pub enum Full {
-    Slots,
-    Units,
-    Names,
-}
-
 impl Kind {
     /// The byte of the kind in a head.
     pub fn byte(self) -> u8

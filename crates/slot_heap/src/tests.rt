@@ -56,20 +56,22 @@ fn two_units_left(rt: HostRuntime) -> Result<(), AllocError> {
 #[test]
 fn slots_in_a_chain(rt: HostRuntime) -> Result<(), AllocError> {
     let mut heap = Heap::start(Rom::none(), Reserve::of(rt.alloc(), AMPLE, 0, 0)?);
-    if let Ok(object) = heap.instance(Kind::Object, Ref(0), 0) {
-        let head = heap.first(object);
-        let added = heap.add(object, head, data(1).with(Value::Number(-5)));
-        assert!(rt; added == Ok(SlotAt(2)));
-        assert!(rt; heap.copy_cost(object) == 0);
-        let head = heap.first(object);
-        if let Some(at) = heap.next(head) {
-            let old = heap.slot(at);
-            if old.kind == 16 && old.flags < 64 {
-                assert!(rt; old.value() == Value::Number(-5));
-                heap.put(at, data(1).with(Value::Bool(true)));
-            }
-        }
-    }
+    let Ok(object) = heap.instance(Kind::Object, Ref(0), 0) else {
+        panic!(rt; "no room for the object");
+    };
+    let head = heap.first(object);
+    let added = heap.add(object, head, data(1).with(Value::Number(-5)));
+    assert!(rt; added == Ok(SlotAt(2)));
+    assert!(rt; heap.copy_cost(object) == 0);
+    let head = heap.first(object);
+    let Some(at) = heap.next(head) else {
+        panic!(rt; "nothing behind the head");
+    };
+    let old = heap.slot(at);
+    assert!(rt; old.kind == 16);
+    assert!(rt; old.flags < 64);
+    assert!(rt; old.value() == Value::Number(-5));
+    heap.put(at, data(1).with(Value::Bool(true)));
     assert!(rt; heap.used().slots == 2);
     assert!(rt; heap.rom_slots() == 0);
     assert!(rt; heap.spare().slots == 62);
@@ -80,21 +82,19 @@ fn slots_in_a_chain(rt: HostRuntime) -> Result<(), AllocError> {
 #[test]
 fn names_are_one_each(rt: HostRuntime) -> Result<(), AllocError> {
     let mut heap = Heap::start(Rom::none(), Reserve::of(rt.alloc(), AMPLE, 0, 0)?);
-    if heap.open_text(1).is_ok() {
-        heap.push_unit(97);
-        let text = heap.close_text();
-        assert!(rt; heap.length(text) == 1);
-        assert!(rt; heap.find_name(text) == None);
-        let first = heap.name(text);
-        assert!(rt; first == Ok(0));
-        assert!(rt; heap.names() == 1);
-        assert!(rt; heap.unit(text, 0) == 97);
-        if heap.open_text(1).is_ok() {
-            heap.push_text(text, 0, 1);
-            let copy = heap.close_text();
-            assert!(rt; heap.find_name(copy) == Some(0));
-        }
-    }
+    assert!(rt; heap.open_text(1).is_ok());
+    heap.push_unit(97);
+    let text = heap.close_text();
+    assert!(rt; heap.length(text) == 1);
+    assert!(rt; heap.find_name(text) == None);
+    let first = heap.name(text);
+    assert!(rt; first == Ok(0));
+    assert!(rt; heap.names() == 1);
+    assert!(rt; heap.unit(text, 0) == 97);
+    assert!(rt; heap.open_text(1).is_ok());
+    heap.push_text(text, 0, 1);
+    let copy = heap.close_text();
+    assert!(rt; heap.find_name(copy) == Some(0));
     Ok(())
 }
 
@@ -122,12 +122,11 @@ fn first_in_first_out(rt: HostRuntime) -> Result<(), AllocError> {
     assert!(rt; heap.job(0).kind == 1);
     let second = heap.next_job();
     assert!(rt; second.is_some());
-    if heap.next_job().is_none() {
-        assert!(rt; heap.fits(AMPLE) == Err(Full::Slots));
-        let spare = heap.spare();
-        heap.restart(spare);
-        assert!(rt; heap.used().slots == 0);
-    }
+    assert!(rt; heap.next_job().is_none());
+    assert!(rt; heap.fits(AMPLE) == Err(Full::Slots));
+    let spare = heap.spare();
+    heap.restart(spare);
+    assert!(rt; heap.used().slots == 0);
     Ok(())
 }
 
@@ -143,12 +142,12 @@ fn places_of_the_realm(rt: HostRuntime) -> Result<(), AllocError> {
 #[test]
 fn cut_in_a_chain(rt: HostRuntime) -> Result<(), AllocError> {
     let mut heap = Heap::start(Rom::none(), Reserve::of(rt.alloc(), AMPLE, 0, 0)?);
-    if let Ok(array) = heap.instance(Kind::Array, Ref(0), 1) {
-        let head = heap.first(array);
-        if let Some(_second) = heap.next(head) {
-            heap.cut(array, head);
-            assert!(rt; heap.used().slots == 2);
-        }
-    }
+    let Ok(array) = heap.instance(Kind::Array, Ref(0), 1) else {
+        panic!(rt; "no room for the array");
+    };
+    let head = heap.first(array);
+    assert!(rt; heap.next(head).is_some());
+    heap.cut(array, head);
+    assert!(rt; heap.used().slots == 2);
     Ok(())
 }

@@ -7,7 +7,7 @@ use Rattle.std.specs.FinMap.{gets}
 use borrow.Author.Tests.{leb-true}
 use Rattle.xs_base.specs.Held.{Contents, held, Gives}
 use Rattle.xs_base.specs.Outside.{HasCause, Receives, SentInPart}
-use Rattle.es_model.specs.Host.{written}
+use Rattle.es_ops.specs.Host.{written}
 use Rattle.js_value.specs.Text.{units}
 use Rattle.xs_cli.specs.Thin.{Thin, Blank, Prints, thin, whole, parts, strings, joined, cut_by, is_quote, spells, end_tokens, print_tokens, is_plain, texts_of, most_bytes}
 use Rattle.xs_cli.specs.Answer.{Word, answer, of_words, of_file, of_thin, file_of, budget, refusal}

@@ -6,7 +6,7 @@ use Rattle.std.specs.Io.KnownBytes.{Appends}
 use Rattle.xs_base.specs.Outside.{SentInPart}
 use Rattle.xs_base.proofs.Writes.{SentInPart-longer}
 use Rattle.es_model.specs.Tree.{Text}
-use Rattle.es_model.proofs.Lines.{written-line}
+use Rattle.es_ops.proofs.Lines.{written-line}
 use Rattle.xs_cli.specs.Line.{line_bytes, WritesPiece}
 
 -- the line is its first piece, and then the line of the rest

@@ -7,9 +7,9 @@ use Rattle.xs_base.specs.Outside.{SentInPart}
 use Rattle.xs_base.proofs.Writes.{SentInPart-after, SentInPart-longer}
 use Rattle.byte_code.specs.declared.instruction.Op.{Op}
 use Rattle.byte_code.specs.Instructions.{spelling, IsInstruction, Begins}
-use Rattle.es_model.specs.State.{TraceEvent}
-use Rattle.es_model.specs.Host.{written}
-use Rattle.es_model.proofs.Lines.{written-append}
+use Rattle.es_ops.specs.State.{TraceEvent}
+use Rattle.es_ops.specs.Host.{written}
+use Rattle.es_ops.proofs.Lines.{written-append}
 use Rattle.xs_cli.specs.Code.{spelled, AreInstructions}
 use Rattle.xs_cli.specs.Machine.{Stepped, Goes, Returned, Stuck, after, step, runs}
 use Rattle.xs_cli.specs.Steps.{DoesStep, DoesRun}

@@ -3,7 +3,7 @@ use Rattle.std.specs.Prelude.{◌≡◌, ◌<◌, ◌≤◌, ◌++◌, ℕ, List
 use Rattle.std.specs.Io.KnownBytes.{Appends}
 use Rattle.xs_base.specs.Outside.{SentInPart}
 use Rattle.es_model.specs.Tree.{Text}
-use Rattle.es_model.specs.Host.{written, line_events}
+use Rattle.es_ops.specs.Host.{written, line_events}
 
 abbrev pub line_bytes : Text → List ℕ
 line_bytes text = written (line_events text)

@@ -2,8 +2,8 @@
 -- (its top comes first), and what it writes. Own rules.
 use Rattle.std.specs.Prelude.{ℕ, zero, suc, ◌==◌, ◌++◌, Bool, true, false, List, [], ◌∷◌, length, Option, Some, None, option_map, nat_lt, slice_get}
 use Rattle.es_model.specs.Tree.{Text}
-use Rattle.es_model.specs.State.{TraceEvent}
-use Rattle.es_model.specs.Host.{line_events}
+use Rattle.es_ops.specs.State.{TraceEvent}
+use Rattle.es_ops.specs.Host.{line_events}
 use Rattle.byte_code.specs.declared.instruction.Op.{Op}
 use Rattle.byte_code.specs.declared.instruction.Op.TheVariants as op
 use Rattle.xs_cli.specs.declared.machine.stack.Value.{Value}

@@ -3,8 +3,8 @@ use Rattle.std.specs.Prelude.{◌≡◌, ◌++◌, ℕ, List, [], ◌∷◌, Opt
 use Rattle.std.specs.Io.KnownBytes.{Appends, Keeps}
 use Rattle.xs_base.specs.Outside.{Rose, SentInPart}
 use Rattle.es_model.specs.Tree.{Text}
-use Rattle.es_model.specs.State.{TraceEvent}
-use Rattle.es_model.specs.Host.{written, line_events}
+use Rattle.es_ops.specs.State.{TraceEvent}
+use Rattle.es_ops.specs.Host.{written, line_events}
 use Rattle.xs_cli.specs.declared.top.End.{End}
 use Rattle.xs_cli.specs.declared.top.End.TheVariants as end
 

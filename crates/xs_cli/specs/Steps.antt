@@ -2,7 +2,7 @@
 use Rattle.std.specs.Prelude.{◌≡◌, ℕ, List, Option, Result, Ok, Err}
 use Rattle.std.specs.Io.KnownBytes.{Appends, Keeps}
 use Rattle.xs_base.specs.Outside.{Rose, SentInPart}
-use Rattle.es_model.specs.Host.{written}
+use Rattle.es_ops.specs.Host.{written}
 use Rattle.xs_cli.specs.Machine.{Stepped, Goes, Returned, Stuck}
 use Rattle.xs_cli.specs.declared.machine.stack.Value.{Value}
 use Rattle.xs_cli.specs.declared.machine.Flow.{Flow}

@@ -2,8 +2,8 @@
 
 ghost use Rattle.std.specs.Prelude.{◌≡◌, ℕ, List, Option, [], Some};
 ghost use Rattle.byte_code.specs.declared.instruction.Op.{Op};
-ghost use Rattle.es_model.specs.Host.{written};
-ghost use Rattle.es_model.specs.State.{TraceEvent};
+ghost use Rattle.es_ops.specs.Host.{written};
+ghost use Rattle.es_ops.specs.State.{TraceEvent};
 ghost use Rattle.xs_cli.specs.Code.{spelled, AreInstructions};
 ghost use Rattle.xs_cli.specs.Machine.{runs, step, pushed, popped, called, printed, name_at, returned};
 ghost use Rattle.xs_cli.specs.Steps.{DoesStep, DoesRun, IsCounted};

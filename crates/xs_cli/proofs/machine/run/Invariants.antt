@@ -1,6 +1,6 @@
 use Rattle.std.proofs.Common.{◌≡◌, ◌-◌, List, [], Some, length}
 use Rattle.byte_code.specs.declared.instruction.Op.{Op}
-use Rattle.es_model.specs.State.{TraceEvent}
+use Rattle.es_ops.specs.State.{TraceEvent}
 use Rattle.xs_cli.specs.Code.{spelled, AreInstructions}
 use Rattle.xs_cli.specs.Machine.{runs}
 use Rattle.xs_cli.proofs.Running.{IsRunning}

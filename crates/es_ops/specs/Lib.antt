@@ -1,0 +1,16 @@
+pub mod Equality
+pub mod Messages
+pub mod State
+pub mod InternalMethods
+pub mod Ledger
+pub mod Events
+pub mod Act
+pub mod Errors
+pub mod PropertyReads
+pub mod Conversions
+pub mod PropertyWrites
+pub mod Bindings
+pub mod Jobs
+pub mod Host
+pub mod Laws
+pub mod Operations

@@ -1,0 +1,2 @@
+//! The operations of a run, as definitions and laws.
+#![tactic(auto)]
