@@ -1,6 +1,5 @@
 pub mod Lines
 mod AccessRows
-pub mod ActsBelow
 pub mod Agreement
 pub mod Chains
 pub mod Closed
@@ -9,8 +8,6 @@ mod ConversionRows
 mod DescriptorRows
 pub mod FrozenThings
 pub mod Growth
-pub mod JobsBelow
-pub mod OperationsBelow
 mod LedgerRows
 pub mod Others
 pub mod Orderly
@@ -23,5 +20,21 @@ pub mod TwoLedgers
 mod WellFormedRows
 pub mod WellFormedRuns
 pub mod WithinRoom
-pub mod WritesBelow
 pub mod WellFormedStores
+pub mod Parts
+pub mod Acting
+pub mod ReadsRelated
+pub mod WritesRelated
+pub mod JobsRelated
+pub mod Stand
+pub mod MoreNames
+pub mod RunsRelated
+pub mod RepliesRelated
+pub mod WorldsRelated
+pub mod DeedsRelated
+pub mod MethodsRelated
+pub mod AppliesRelated
+pub mod OperationsRelated
+pub mod Headline
+pub mod Starts
+pub mod Example

@@ -14,3 +14,7 @@ pub mod Jobs
 pub mod Host
 pub mod Laws
 pub mod Operations
+pub mod Related
+pub mod Standing
+pub mod Renaming
+pub mod Handed

@@ -1,11 +1,7 @@
--- All operations that are acts, and when what one is handed is in order: values are of the profile, keys are keys, and
--- all that is spoken of stands.
-use Rattle.std.specs.Prelude.{ℕ, ◌≤◌, ◌<◌, Bool, ℤ, Option, IfSome}
-use Rattle.js_value.specs.Number.{IsNumber}
+-- All operations that are acts.
+use Rattle.std.specs.Prelude.{ℕ, Bool, ℤ, Option}
 use Rattle.js_value.specs.Value.{Value, Text, Key}
 use Rattle.js_value.specs.Store.{Property}
-use Rattle.js_value.specs.Order.{IsString, IsKey}
-use Rattle.js_value.specs.WellFormed.{IsValueBelow, IsContentBelow}
 use Rattle.js_value.specs.Job.{Job}
 use Rattle.es_ops.specs.InternalMethods.{PropertyDescriptor}
 use Rattle.es_ops.specs.Messages.{Message}
@@ -16,10 +12,8 @@ use Rattle.es_ops.specs.Conversions.{Hint, to_primitive, to_number, to_string, t
 use Rattle.es_ops.specs.PropertyWrites.{NumberConversion, define_own_property, define_property_or_throw, create_data_property, create_data_property_or_throw, ordinary_set, set_v, set_or_throw, put_value, delete_property_or_throw, delete_v}
 use Rattle.es_ops.specs.Bindings.{make_cell, initialize_cell, read_cell, write_cell, copy_cell}
 use Rattle.es_ops.specs.Jobs.{fulfil_promise, reject_promise, resolve_promise, create_resolving_functions, call_resolve_function, call_reject_function, make_promise, perform_promise_then, promise_then, run_job, run_first_job}
-use Rattle.es_ops.specs.Laws.{IsDescriptorBelow, IsJobBelow, IsActBelow}
 
--- ---- the operations, each with what comes after it
-
+-- each with what comes after it
 pub data Operation : Type 0 where
   -- errors and made texts
   Raise : Message → Operation
@@ -113,76 +107,3 @@ act_of (PerformPromiseThen p f r derived k) = perform_promise_then p f r derived
 act_of (PromiseThen p f r k) = promise_then p f r k
 act_of (RunJob job) = run_job job
 act_of RunFirstJob = run_first_job
-
--- ---- what one is handed
-
--- what comes after speaks only of things that stand by then, where what it is given is in order
-abbrev pub Later : {T : Type 0} → ℕ → (ℕ → T → Type 0) → (T → Act) → Type 0
-Later {T} m B k = (n : ℕ) → m ≤ n → (x : T) → B n x → IsActBelow n (k x)
-
-abbrev pub AnyBool : ℕ → Bool → Type 0
-AnyBool n b = Unit {0}
-
-abbrev pub ANumber : ℕ → ℤ → Type 0
-ANumber n z = IsNumber z
-
-abbrev pub AString : ℕ → Text → Type 0
-AString n t = IsString t
-
-abbrev pub AKey : ℕ → Key → Type 0
-AKey n key = IsKey key
-
-abbrev pub AThing : ℕ → ℕ → Type 0
-AThing n x = x < n
-
--- a conversion to a Number asks for a value and gives a Number
-abbrev pub IsConversionBelow : NumberConversion → Type 0
-IsConversionBelow convert = (m : ℕ) (v : Value) (k : ℤ → Act) → IsValueBelow m v → Later m ANumber k → IsActBelow m (convert v k)
-
--- a property that was found, if there is one
-abbrev pub IfPropertyBelow : ℕ → Option Property → Type 0
-IfPropertyBelow m p = IfSome p (λ q. IsContentBelow m q.content)
-
-abbrev pub IsOperationBelow : ℕ → Operation → Type 0
-IsOperationBelow m (Raise e) = Unit {0}
-IsOperationBelow m (MakeError e k) = Later m AThing k
-IsOperationBelow m (MakeString t k) = IsString t × Later m IsValueBelow k
-IsOperationBelow m (ToPrimitive hint v k) = IsValueBelow m v × Later m IsValueBelow k
-IsOperationBelow m (ToNumber v k) = IsValueBelow m v × Later m ANumber k
-IsOperationBelow m (ToString v k) = IsValueBelow m v × Later m AString k
-IsOperationBelow m (ToPropertyKey v k) = IsValueBelow m v × Later m AKey k
-IsOperationBelow m (NumberExpected v k) = IsValueBelow m v × Later m ANumber k
-IsOperationBelow m (TextExpected v k) = IsValueBelow m v × Later m AString k
-IsOperationBelow m (KeyExpected v k) = IsValueBelow m v × Later m AKey k
-IsOperationBelow m (IsLooselyEqual x y k) = IsValueBelow m x × IsValueBelow m y × Later m AnyBool k
-IsOperationBelow m (IsCallable v k) = Later m AnyBool k
-IsOperationBelow m (PropertyValue p receiver k) = IfPropertyBelow m p × IsValueBelow m receiver × Later m IsValueBelow k
-IsOperationBelow m (Get n key k) = (n < m) × Later m IsValueBelow k
-IsOperationBelow m (HasProperty n key k) = Later m AnyBool k
-IsOperationBelow m (GetV v key k) = IsValueBelow m v × Later m IsValueBelow k
-IsOperationBelow m (DefineProperty convert n key d k) = IsConversionBelow convert × IsKey key × IsDescriptorBelow m d × Later m AnyBool k
-IsOperationBelow m (DefinePropertyOrThrow convert n key d k) = IsConversionBelow convert × IsKey key × IsDescriptorBelow m d × IsActBelow m k
-IsOperationBelow m (CreateDataProperty n key v k) = IsKey key × IsValueBelow m v × Later m AnyBool k
-IsOperationBelow m (CreateDataPropertyOrThrow n key v k) = IsKey key × IsValueBelow m v × IsActBelow m k
-IsOperationBelow m (OrdinarySet convert n key v receiver k) = IsConversionBelow convert × IsKey key × IsValueBelow m v × IsValueBelow m receiver × Later m AnyBool k
-IsOperationBelow m (SetV convert base key v k) = IsConversionBelow convert × IsValueBelow m base × IsKey key × IsValueBelow m v × Later m AnyBool k
-IsOperationBelow m (SetOrThrow convert n key v k) = IsConversionBelow convert × (n < m) × IsKey key × IsValueBelow m v × IsActBelow m k
-IsOperationBelow m (PutValue base key v k) = IsValueBelow m base × IsKey key × IsValueBelow m v × IsActBelow m k
-IsOperationBelow m (DeletePropertyOrThrow n key k) = IsActBelow m k
-IsOperationBelow m (DeleteV base key k) = IsActBelow m k
-IsOperationBelow m (MakeCell const k) = Later m AThing k
-IsOperationBelow m (InitializeCell c v k) = IsValueBelow m v × IsActBelow m k
-IsOperationBelow m (ReadCell c k) = Later m IsValueBelow k
-IsOperationBelow m (WriteCell c v k) = IsValueBelow m v × IsActBelow m k
-IsOperationBelow m (CopyCell c k) = Later m AThing k
-IsOperationBelow m (FulfilPromise p v k) = IsValueBelow m v × IsActBelow m k
-IsOperationBelow m (RejectPromise p v k) = (p < m) × IsValueBelow m v × IsActBelow m k
-IsOperationBelow m (ResolvePromise p v k) = (p < m) × IsValueBelow m v × IsActBelow m k
-IsOperationBelow m (CreateResolvingFunctions p k) = (p < m) × ((n : ℕ) → m ≤ n → (mark resolve reject : ℕ) → mark < n → resolve < n → reject < n → IsActBelow n (k mark resolve reject))
-IsOperationBelow m (CallResolveFunction p mark v) = (p < m) × IsValueBelow m v
-IsOperationBelow m (CallRejectFunction p mark v) = (p < m) × IsValueBelow m v
-IsOperationBelow m (MakePromise k) = Later m AThing k
-IsOperationBelow m (PerformPromiseThen p f r derived k) = IsValueBelow m f × IsValueBelow m r × (derived < m) × IsActBelow m k
-IsOperationBelow m (PromiseThen p f r k) = IsValueBelow m f × IsValueBelow m r × Later m AThing k
-IsOperationBelow m (RunJob job) = IsJobBelow m job
-IsOperationBelow m RunFirstJob = Unit {0}

@@ -1,0 +1,66 @@
+-- Two worlds that are the same but for the numbers of things, and what two runs over them come to. The numbers of the
+-- things that both have stand in pairs, and each thing that is made adds one.
+use Rattle.std.specs.Prelude.{◌≡◌, ℕ, ◌<◌, ◌≤◌, List, [], ◌∷◌, length, Option, get_or, slice_get, ◌⊎◌}
+use Rattle.js_value.specs.Value.{Value}
+use Rattle.es_ops.specs.State.{World, State, ModuleState}
+use Rattle.es_ops.specs.Ledger.{Event, Happens, Stops}
+use Rattle.es_ops.specs.Act.{Act, Ran, Ends, Halts, Calls}
+use Rattle.es_ops.specs.Laws.{IsWorldWellFormed}
+use Rattle.es_ops.specs.Related.{Naming, BothOption, BothList, BothValue, BothThing, BothJob, BothCompletion, Related, IsOneToOne, intrinsics}
+
+abbrev pub Pairs : Type 0
+Pairs = List (ℕ × ℕ)
+
+abbrev pub named : Pairs → Naming
+named [] m n = ⊥
+named (p ∷ ps) m n = ((m ≡ p.0) × (n ≡ p.1)) ⊎ named ps m n
+
+abbrev pub Extends : Pairs → Pairs → Type 0
+Extends ps qs = (m n : ℕ) → named ps m n → named qs m n
+
+-- two acts that are related, and stay so whatever things are made
+abbrev pub Kept : Pairs → Act → Act → Type 0
+Kept ps a b = (qs : Pairs) → Extends ps qs → IsOneToOne (named qs) → Related (named qs) a b
+
+pub record BothModule (R : Naming) (m n : ModuleState) : Type 0 where
+  pub status : m.status ≡ n.status
+  pub cells : BothList R m.cells n.cells
+
+pub record BothWorld (ps : Pairs) (w v : World) : Type 0 where
+  pub one_to_one : IsOneToOne (named ps)
+  pub stand : (m n : ℕ) → named ps m n → (m < length w.store) × (n < length v.store)
+  pub things : (m n : ℕ) → named ps m n → BothOption (BothThing (named ps)) (slice_get w.store m) (slice_get v.store n)
+  pub realm : (at : ℕ) → at < intrinsics → named ps (get_or w.realm at 0) (get_or v.realm at 0)
+  pub names : w.names ≡ v.names
+  pub used : w.ledger.used ≡ v.ledger.used
+  pub room : w.ledger.room ≡ v.ledger.room
+  pub costs : (m n : ℕ) → named ps m n → get_or w.ledger.first_costs m 0 ≡ get_or v.ledger.first_costs n 0
+  pub costs_left : length w.ledger.first_costs ≤ length w.store
+  pub costs_right : length v.ledger.first_costs ≤ length v.store
+  pub jobs : BothList (BothJob (named ps)) w.jobs v.jobs
+  pub rejections : BothList (named ps) w.rejections v.rejections
+  pub modules : BothList (BothModule (named ps)) w.modules v.modules
+  pub trace : w.trace ≡ v.trace
+  pub input : w.input ≡ v.input
+
+pub record BothSides (ps : Pairs) (s t : State) : Type 0 where
+  pub world : BothWorld ps s.world t.world
+  pub well : IsWorldWellFormed s.world
+  pub meter : s.meter ≡ t.meter
+  pub depth : s.depth ≡ t.depth
+
+-- both events happen, and their answers are related, or both stop alike
+abbrev pub BothEvent : {A B : Type 0} → Pairs → (Naming → A → B → Type 0) → Event A → Event B → Type 0
+BothEvent ps Answers (Happens a w) (Happens b v) = (qs : Pairs) × Extends ps qs × BothWorld qs w v × Answers (named qs) a b
+BothEvent ps Answers (Stops f) (Stops g) = f ≡ g
+BothEvent ps Answers _ _ = ⊥
+
+abbrev pub BothRan : Pairs → Ran → Ran → Type 0
+BothRan ps (Ends c s) (Ends d t) = (qs : Pairs) × Extends ps qs × BothSides qs s t × BothCompletion (named qs) c d
+BothRan ps (Halts x s) (Halts y t) = (x ≡ y) × ((qs : Pairs) × Extends ps qs × BothSides qs s t)
+BothRan ps _ _ = ⊥
+
+abbrev pub BothCalling : Calls → Calls → Type 0
+BothCalling c d = (ps : Pairs) (f g this that : Value) (vs ws : List Value) (x y : Option Value) (s t : State)
+    → BothValue (named ps) f g → BothValue (named ps) this that → BothList (BothValue (named ps)) vs ws → BothOption (BothValue (named ps)) x y → BothSides ps s t
+    → BothRan ps (c f this vs x s) (d g that ws y t)
