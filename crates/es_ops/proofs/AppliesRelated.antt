@@ -1,14 +1,14 @@
 -- Internal methods, and the attachment of a prototype, over two worlds; and the whole law.
 use Rattle.std.proofs.Common.{◌≡◌, ℕ, zero, suc, ◌-◌, Bool, true, false, cond, not, ◌||◌, [], ◌∷◌, ◌++◌, nat_lt, refl, ap, ap₂, Option, Some, None, slice_get}
 use Rattle.js_value.specs.Value.{Text, Key, Index, Named, Numeral}
-use Rattle.js_value.specs.Store.{Thing, AnObject, ObjectRecord, Property, Content, as_object, object_in}
+use Rattle.js_value.specs.Store.{Thing, AnObject, ObjectRecord, Property, Content, Class, as_object, object_in}
 use Rattle.js_value.specs.Order.{IsOrderly}
 use Rattle.es_ops.specs.State.{World, State, plus, some_slots}
 use Rattle.es_ops.specs.Ledger.{written, growth, new_name, name_price, name_added, name_cost, with_name}
 use Rattle.es_ops.specs.InternalMethods.{Method, DefineOwnProperty, Delete, PreventExtensions, SetPrototypeOf, Freeze, apply_method, refused, unchanged, wrote, set_prototype_of, same_prototype, on_chain, longest}
-use Rattle.es_ops.specs.Events.{apply_outcome, attached, with_prototype, pointing_to, prototype_name}
+use Rattle.es_ops.specs.Events.{apply_outcome, attached, at_home, with_home, with_prototype, pointing_to, prototype_name}
 use Rattle.es_ops.specs.Act.{Act, Calls, run}
-use Rattle.es_ops.specs.Related.{BothOption, BothNone, BothSome, BothObject, BothContent, BothData, BothAccessor, BothProperty, BothRecord, BothThing, BothAnObject, BothACell, BothAMark, BothMethod}
+use Rattle.es_ops.specs.Related.{BothOption, BothNone, BothSome, BothObject, BothContent, BothData, BothAccessor, BothProperty, BothClass, BothOrdinary, BothArray, BothScript, BothBuiltIn, BothResolve, BothReject, BothError, BothPromise, BothRecord, BothThing, BothAnObject, BothACell, BothAMark, BothMethod}
 use Rattle.es_ops.specs.Renaming.{Pairs, named, Kept, BothWorld, BothSides, BothEvent, BothRan, BothCalling}
 use Rattle.es_ops.proofs.Parts.{same_number}
 use Rattle.es_ops.proofs.RunsRelated.{run_related}
@@ -100,10 +100,10 @@ apply_related ps m n f g w v r h b well =
 
 pub attach_related : Attaches
 unfolding object_in
-attach_related ps f g p q w v r s b well = by_thing (slice_get w.store f) (slice_get v.store g) (b.things f g r) (well.store.orderly f)
+attach_related ps f g p q c w v r s b well = by_thing (slice_get w.store f) (slice_get v.store g) (b.things f g r) (well.store.orderly f)
   where
     Attached : Option Thing → Option Thing → Type 0
-    Attached x y = BothWorld ps (record w { store = attached p x w.store f }) (record v { store = attached q y v.store g })
+    Attached x y = BothWorld ps (record w { store = attached p c x w.store f }) (record v { store = attached q c y v.store g })
 
     with_both : (o u : ObjectRecord) {x y : Option Property} → BothRecord (named ps) o u → BothOption (BothProperty (named ps)) x y → BothRecord (named ps) (with_prototype p o x) (with_prototype q u y)
     with_both o u h BothNone = h
@@ -113,9 +113,23 @@ attach_related ps f g p q w v r s b well = by_thing (slice_get w.store f) (slice
         pointing (BothData j) = BothData (BothObject s)
         pointing (BothAccessor j k) = BothAccessor j k
 
+    home_both : (c : Bool) {d e : Class} → BothClass (named ps) d e → BothClass (named ps) (at_home p c d) (at_home q c e)
+    home_both true BothOrdinary = BothOrdinary
+    home_both true BothArray = BothArray
+    home_both true (BothScript h cs) = BothScript (BothSome s) cs
+    home_both true BothBuiltIn = BothBuiltIn
+    home_both true (BothResolve h i) = BothResolve h i
+    home_both true (BothReject h i) = BothReject h i
+    home_both true BothError = BothError
+    home_both true (BothPromise h rs) = BothPromise h rs
+    home_both false h = h
+
+    at_home_both : (o u : ObjectRecord) → BothRecord (named ps) o u → BothRecord (named ps) (with_home p c o) (with_home q c u)
+    at_home_both o u h = record { class = home_both c h.class; prototype = h.prototype; extensible = h.extensible; indexed = h.indexed; named = h.named }
+
     by_thing : (x y : Option Thing) → BothOption (BothThing (named ps)) x y → IsOrderly (as_object x) → Attached x y
     by_thing x y BothNone o = b
-    by_thing x y (BothSome (BothAnObject {o = a} {p = c} h)) o = put_both ps w v b f g _ _ r (BothAnObject (with_both a c h (own_property_both (named ps) a c (Named prototype_name) o h)))
+    by_thing x y (BothSome (BothAnObject {o = i} {p = j} h)) o = put_both ps w v b f g _ _ r (BothAnObject (at_home_both _ _ (with_both i j h (own_property_both (named ps) i j (Named prototype_name) o h))))
     by_thing x y (BothSome (BothACell h)) o = b
     by_thing x y (BothSome BothAMark) o = b
 

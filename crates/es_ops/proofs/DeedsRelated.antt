@@ -22,7 +22,7 @@ Applies = (ps : Pairs) (m n : ℕ) (f g : Method) (w v : World) → named ps m n
 
 -- functions that are being made
 abbrev pub Attaches : Type 0
-Attaches = (ps : Pairs) (f g p q : ℕ) (w v : World) → named ps f g → named ps p q → BothWorld ps w v → IsWorldWellFormed w → BothWorld ps (record w { store = attached p (slice_get w.store f) w.store f }) (record v { store = attached q (slice_get v.store g) v.store g })
+Attaches = (ps : Pairs) (f g p q : ℕ) (a : Bool) (w v : World) → named ps f g → named ps p q → BothWorld ps w v → IsWorldWellFormed w → BothWorld ps (record w { store = attached p a (slice_get w.store f) w.store f }) (record v { store = attached q a (slice_get v.store g) v.store g })
 
 pub append_list : {A : Type 0} {B : A → A → Type 0} {xs ys : List A} {x y : A} → BothList B xs ys → B x y → BothList B (xs ++ x ∷ []) (ys ++ y ∷ [])
 append_list BothEmpty h = BothCons h BothEmpty
@@ -151,7 +151,7 @@ pub perform_related : Applies → Attaches → Performs
 unfolding perform cell_in mark_in
 perform_related f g ps (Make t) (Make u) w v h b well = unless_both ps w v b (λ R. R) (made ps w v b) (some_slots (size t)) (some_slots (size u)) _ _ _ _ (up ps w v b) (ap some_slots (size_same (named ps) h.0)) (made_both ps w v b t u _ _ h.0 (ap₂ plus b.used (ap some_slots (size_same (named ps) h.0)))) (made_named ps w v b)
 perform_related f g ps (Apply m i) (Apply n j) w v h b well = f ps m n i j w v h.0 h.1 b well
-perform_related f g ps (Attach m p) (Attach n q) w v h b well = (ps, λ i j z. z, g ps m n p q w v h.0 h.1 b well, tt)
+perform_related f g ps (Attach m p a) (Attach n q c) w v h b well = rw h.2 (ps, λ i j z. z, g ps m n p q c w v h.0 h.1 b well, tt)
 perform_related f g ps (SetCell m x) (SetCell n y) w v h b well = let c = as_cell_both (named ps) (b.things m n h.0) in written_both ps w v b (λ R a b. Unit {0}) m n _ _ _ _ nothing nothing tt tt h.0 (BothACell c) (BothACell (record { value = BothSome h.1; const = c.const })) refl tt
 perform_related f g ps (SetMark m) (SetMark n) w v h b well = rw (as_mark_same (named ps) (b.things m n h)) (written_both ps w v b (λ R a b. Unit {0}) m n _ _ _ _ nothing nothing tt tt h BothAMark BothAMark refl tt)
 perform_related f g ps (Settle m s) (Settle n t) w v h b well = settle_both ps w v b m n _ _ h.0 h.1 (object_both ps w v b m n h.0).class

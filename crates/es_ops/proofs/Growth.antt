@@ -119,11 +119,11 @@ dequeue_grows : (jobs : List Job) (w : World) → IfHappens (dequeue jobs w) (λ
 dequeue_grows [] w = grows_refl w
 dequeue_grows (j ∷ jobs) w = grows_same w (record w { jobs = jobs }) (le_refl (length w.store)) refl refl refl refl
 
-attached_length : (p : ℕ) (t : Option Thing) (s : Store) (f : ℕ) → length s ≤ length (attached p t s f)
-attached_length p (Some (AnObject o)) s f = rw (length-set s f) (le_refl (length s))
-attached_length p (Some (ACell c)) s f = le_refl (length s)
-attached_length p (Some (AMark b)) s f = le_refl (length s)
-attached_length p None s f = le_refl (length s)
+attached_length : (p : ℕ) (a : Bool) (t : Option Thing) (s : Store) (f : ℕ) → length s ≤ length (attached p a t s f)
+attached_length p a (Some (AnObject o)) s f = rw (length-set s f) (le_refl (length s))
+attached_length p a (Some (ACell c)) s f = le_refl (length s)
+attached_length p a (Some (AMark b)) s f = le_refl (length s)
+attached_length p a None s f = le_refl (length s)
 
 pub perform_grows : (d : Deed) (w : World) → IfHappens (perform d w) (λ a v. Grows w v)
 unfolding perform
@@ -133,8 +133,8 @@ perform_grows (Make t) w =
 perform_grows (Apply n m) w =
     let before : ObjectRecord = object_in w.store n in
     apply_grows w n m before (apply_method m w.store n before).answer (apply_method m w.store n before).written
-perform_grows (Attach f p) w =
-    grows_same w (record w { store = attached p (slice_get w.store f) w.store f }) (attached_length p (slice_get w.store f) w.store f) refl refl refl refl
+perform_grows (Attach f p a) w =
+    grows_same w (record w { store = attached p a (slice_get w.store f) w.store f }) (attached_length p a (slice_get w.store f) w.store f) refl refl refl refl
 perform_grows (SetCell n v) w = written_grows w w n (ACell (cell_in w.store n)) (ACell (record { value = Some v; const = (cell_in w.store n).const })) nothing tt (grows_refl w)
 perform_grows (SetMark n) w = written_grows w w n (AMark (mark_in w.store n)) (AMark true) nothing tt (grows_refl w)
 perform_grows (Settle n state) w = settle_grows w n state (object_in w.store n) (object_in w.store n).class

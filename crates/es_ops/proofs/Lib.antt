@@ -38,3 +38,4 @@ pub mod OperationsRelated
 pub mod Headline
 pub mod Starts
 pub mod Example
+mod ReviewRows

@@ -91,11 +91,11 @@ module _ (k : ℕ) (x : Option Thing) where
   dequeue_stays [] w e = e
   dequeue_stays (j ∷ jobs) w e = e
 
-  attached_stays : (p : ℕ) (t : Option Thing) (s : Store) (f : ℕ) → (f == k) ≡ false → slice_get s k ≡ x → slice_get (attached p t s f) k ≡ x
-  attached_stays p (Some (AnObject o)) s f d e = get-set_other s f k _ (different f k d) ∙ e
-  attached_stays p (Some (ACell c)) s f d e = e
-  attached_stays p (Some (AMark b)) s f d e = e
-  attached_stays p None s f d e = e
+  attached_stays : (p : ℕ) (a : Bool) (t : Option Thing) (s : Store) (f : ℕ) → (f == k) ≡ false → slice_get s k ≡ x → slice_get (attached p a t s f) k ≡ x
+  attached_stays p a (Some (AnObject o)) s f d e = get-set_other s f k _ (different f k d) ∙ e
+  attached_stays p a (Some (ACell c)) s f d e = e
+  attached_stays p a (Some (AMark b)) s f d e = e
+  attached_stays p a None s f d e = e
 
 pub others_stay : (d : Deed) (w : World) (k : ℕ) → k < length w.store → changes d k ≡ false → IfHappens (perform d w) (λ a v. slice_get v.store k ≡ slice_get w.store k)
 unfolding perform Stays
@@ -103,7 +103,7 @@ others_stay (Make t) w k l e = charged_stays k (slice_get w.store k) (some_slots
 others_stay (Apply n m) w k l e =
     let before : ObjectRecord = object_in w.store n in
     apply_stays k (slice_get w.store k) w n m before (apply_method m w.store n before).answer (apply_method m w.store n before).written e refl
-others_stay (Attach f p) w k l e = attached_stays k (slice_get w.store k) p (slice_get w.store f) w.store f e refl
+others_stay (Attach f p a) w k l e = attached_stays k (slice_get w.store k) p a (slice_get w.store f) w.store f e refl
 others_stay (SetCell n v) w k l e = written_stays k (slice_get w.store k) w n (ACell (cell_in w.store n)) (ACell (record { value = Some v; const = (cell_in w.store n).const })) nothing tt e refl
 others_stay (SetMark n) w k l e = written_stays k (slice_get w.store k) w n (AMark (mark_in w.store n)) (AMark true) nothing tt e refl
 others_stay (Settle n state) w k l e = settle_stays k (slice_get w.store k) w n state (object_in w.store n) (object_in w.store n).class e refl

@@ -109,7 +109,7 @@ module _ (R : Naming) (m : ℕ) (left : (a b : ℕ) → R a b → a < m) where
   pub deed_left : (d e : Deed) → BothDeed R d e → IsDeedBelow m d
   deed_left (Make t) (Make u) h = (thing_left _ _ h.0, h.1)
   deed_left (Apply n f) (Apply k g) h = method_left f g h.1
-  deed_left (Attach f p) (Attach g q) h = left _ _ h.1
+  deed_left (Attach f p a) (Attach g q b) h = left _ _ h.1
   deed_left (SetCell n v) (SetCell k w) h = value_left _ _ h.1
   deed_left (SetMark n) (SetMark k) h = tt
   deed_left (Settle n s) (Settle k t) h = state_left _ _ h.1
@@ -212,7 +212,7 @@ module _ (n m : ℕ) (le : n ≤ m) where
   answer_both (Settle k s) (Some rs) h = BothSome (reactions_both rs h)
   answer_both Dequeue None h = BothNone
   answer_both Dequeue (Some j) h = BothSome (job_both j h)
-  answer_both (Attach f p) a h = tt
+  answer_both (Attach f p b) a h = tt
   answer_both (SetCell k v) a h = tt
   answer_both (SetMark k) a h = tt
   answer_both (AddReaction k r) a h = tt

@@ -99,7 +99,7 @@ perform_alike (Make t) w l = charged_alike (some_slots (size t)) (some_slots (si
 perform_alike (Apply n m) w l =
     let before : ObjectRecord = object_in w.store n in
     apply_alike w l n m before (apply_method m w.store n before).answer (apply_method m w.store n before).written
-perform_alike (Attach f p) w l = (refl, refl)
+perform_alike (Attach f p a) w l = (refl, refl)
 perform_alike (SetCell n v) w l = written_alike w l n (ACell (cell_in w.store n)) (ACell (record { value = Some v; const = (cell_in w.store n).const })) nothing nothing tt
 perform_alike (SetMark n) w l = written_alike w l n (AMark (mark_in w.store n)) (AMark true) nothing nothing tt
 perform_alike (Settle n state) w l = settle_alike w l n state (object_in w.store n) (object_in w.store n).class

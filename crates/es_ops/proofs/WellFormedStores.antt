@@ -3,7 +3,7 @@ use Rattle.std.proofs.Common.{◌≡◌, ℕ, ◌+◌, ◌<◌, ◌≤◌, Bool,
 use Rattle.js_value.specs.Value.{Text, Named}
 use Rattle.js_value.specs.Store.{Store, Thing, AnObject, ACell, AMark, ObjectRecord, Property, Content, Data, Accessor, Class, Ordinary, Array, ScriptFunction, BuiltInFunction, ResolveFunction, RejectFunction, Error, Promise, PromiseState, Pending, Fulfilled, Rejected, Reaction, object_in, cell_in, mark_in, as_object, as_cell, no_object, own_property, is_length_of, frozen, size}
 use Rattle.js_value.specs.Literal.{digits_number}
-use Rattle.js_value.specs.Order.{IsName, IsOrderly}
+use Rattle.js_value.specs.Order.{FitsLength, NoLength, IsName, IsOrderly}
 use Rattle.js_value.specs.WellFormed.{IfValueBelow, AreNumbersBelow, IsContentBelow, IsStateBelow, IsReactionBelow, AreReactionsBelow, IsClassBelow, IsObjectBelow, IsThingBelow, IsThingOrderly, ChainEnds, Ended, Next, IsWellFormed}
 use Rattle.js_value.proofs.Below.{value_more, object_more, if_value_more, numbers_more}
 use Rattle.js_value.proofs.Profile.{string_tested}
@@ -13,7 +13,7 @@ use Rattle.es_ops.specs.State.{World, Ledger, plus, nothing, some_slots, some_un
 use Rattle.js_value.specs.declared.counts.Full.{Full}
 use Rattle.es_ops.specs.Ledger.{Happens, charged, charged_unless, passed, written, with_thing, first_cost, with_name, name_added, name_cost, growth}
 use Rattle.es_ops.specs.InternalMethods.{Method, DefineOwnProperty, Delete, PreventExtensions, SetPrototypeOf, Freeze, apply_method, set_prototype_of, same_prototype, on_chain, longest, refused, unchanged, wrote, prevent_extensions, freeze}
-use Rattle.es_ops.specs.Events.{Deed, perform, Make, Apply, Attach, SetCell, SetMark, Settle, AddReaction, Enqueue, Dequeue, AddRejection, RemoveRejection, MakeText, Write, Take, apply_outcome, settle_class, react_class, dequeue, attached, with_prototype, pointing_to, prototype_name}
+use Rattle.es_ops.specs.Events.{Deed, perform, Make, Apply, Attach, SetCell, SetMark, Settle, AddReaction, Enqueue, Dequeue, AddRejection, RemoveRejection, MakeText, Write, Take, apply_outcome, settle_class, react_class, dequeue, attached, at_home, with_home, with_prototype, pointing_to, prototype_name}
 use Rattle.es_ops.specs.Laws.{IfHappens, IsMethodBelow, IsDeedBelow, IsJobBelow, AreJobsBelow, AreModulesBelow, IsAnswerBelow, AreReactionAnswersBelow, IsJobAnswerBelow, IsWorldWellFormed}
 use Rattle.es_ops.proofs.Chains.{set_keeps, append_keeps, set_chain, append_chain, prototype_chain, cut_chain}
 use Rattle.es_ops.proofs.Prototypes.{define_prototype, delete_prototype, with_property_prototype}
@@ -257,21 +257,61 @@ with_prototype_same : (p : ℕ) (o : ObjectRecord) (q : Option Property) → (wi
 with_prototype_same p o None = refl
 with_prototype_same p o (Some q) = with_property_prototype o (Named prototype_name) (record q { content = pointing_to p q.content })
 
-attach_well : (w : World) (f p : ℕ) (t : Option Thing) → slice_get w.store f ≡ t → p < length w.store → IsWorldWellFormed w → IsWorldWellFormed (record w { store = attached p t w.store f })
+at_home_below : (m p : ℕ) (a : Bool) (c : Class) → p < m → IsClassBelow m c → IsClassBelow m (at_home p a c)
+at_home_below m p true (ScriptFunction x y home captured) l h = (l, h.1)
+at_home_below m p true Ordinary l h = h
+at_home_below m p true (Array n w) l h = h
+at_home_below m p true (BuiltInFunction row) l h = h
+at_home_below m p true (ResolveFunction q k) l h = h
+at_home_below m p true (RejectFunction q k) l h = h
+at_home_below m p true Error l h = h
+at_home_below m p true (Promise s rs) l h = h
+at_home_below m p false c l h = h
+
+home_below : (m p : ℕ) (a : Bool) (o : ObjectRecord) → p < m → IsObjectBelow m o → IsObjectBelow m (with_home p a o)
+home_below m p a o l h = record { class = at_home_below m p a o.class l h.class; prototype = h.prototype; indexed = h.indexed; named = h.named }
+
+at_home_orderly : (p : ℕ) (a : Bool) (o : ObjectRecord) → IsOrderly o → IsOrderly (with_home p a o)
+at_home_orderly p a o h = record { indices = h.indices; range = h.range; length = fits a o.class h.length; names = h.names; distinct = h.distinct; no_length = no a o.class h.no_length }
+  where
+    fits : (a : Bool) (c : Class) → FitsLength c o.indexed → FitsLength (at_home p a c) o.indexed
+    fits true (ScriptFunction x y home captured) f = tt
+    fits true Ordinary f = f
+    fits true (Array n w) f = f
+    fits true (BuiltInFunction row) f = f
+    fits true (ResolveFunction q k) f = f
+    fits true (RejectFunction q k) f = f
+    fits true Error f = f
+    fits true (Promise s rs) f = f
+    fits false c f = f
+
+    no : (a : Bool) (c : Class) → NoLength c o.named → NoLength (at_home p a c) o.named
+    no true (ScriptFunction x y home captured) f = tt
+    no true Ordinary f = f
+    no true (Array n w) f = f
+    no true (BuiltInFunction row) f = f
+    no true (ResolveFunction q k) f = f
+    no true (RejectFunction q k) f = f
+    no true Error f = f
+    no true (Promise s rs) f = f
+    no false c f = f
+
+attach_well : (w : World) (f p : ℕ) (a : Bool) (t : Option Thing) → slice_get w.store f ≡ t → p < length w.store → IsWorldWellFormed w → IsWorldWellFormed (record w { store = attached p a t w.store f })
 unfolding object_in
-attach_well w f p (Some (AnObject o)) e l h =
+attach_well w f p a (Some (AnObject o)) e l h =
     let here : object_in w.store f ≡ o = ap as_object e in
     let q : Option Property = own_property o (Named prototype_name) in
     let orderly : IsOrderly o = subst IsOrderly here (h.store.orderly f) in
     let below : IsObjectBelow (length w.store) o = subst (IsObjectBelow (length w.store)) here (h.store.objects f) in
-    let after : Thing = AnObject (with_prototype p o q) in
+    let made : ObjectRecord = with_prototype p o q in
+    let after : Thing = AnObject (with_home p a made) in
     store_well w (set w.store f after) (set_le w.store f after) h
-    (set_well w.store f after h.store (with_prototype_orderly p o q orderly)
-    (with_prototype_below (length w.store) p o q l (own_property_below (length w.store) o (Named prototype_name) orderly below) below)
+    (set_well w.store f after h.store (at_home_orderly p a made (with_prototype_orderly p o q orderly))
+    (home_below (length w.store) p a made l (with_prototype_below (length w.store) p o q l (own_property_below (length w.store) o (Named prototype_name) orderly below) below))
     (set_chain w.store f after (with_prototype_same p o q ∙ ap (λ (x : ObjectRecord). x.prototype) (sym here))))
-attach_well w f p (Some (ACell c)) e l h = h
-attach_well w f p (Some (AMark b)) e l h = h
-attach_well w f p None e l h = h
+attach_well w f p a (Some (ACell c)) e l h = h
+attach_well w f p a (Some (AMark b)) e l h = h
+attach_well w f p a None e l h = h
 
 -- ---- jobs and rejections
 
@@ -316,7 +356,7 @@ perform_well (Apply n m) w h b =
     (method_orderly m w.store n before (has_key (length w.store) m b) (h.store.orderly n))
     (method_below (length w.store) m w.store n before b (h.store.orderly n) (h.store.objects n))
     (method_chain m w.store n)
-perform_well (Attach f p) w h b = (attach_well w f p (slice_get w.store f) refl b h, tt)
+perform_well (Attach f p a) w h b = (attach_well w f p a (slice_get w.store f) refl b h, tt)
 perform_well (SetCell n v) w h b = other_well w n (ACell (cell_in w.store n)) (ACell (record { value = Some v; const = (cell_in w.store n).const })) nothing h tt b refl
 perform_well (SetMark n) w h b = other_well w n (AMark (mark_in w.store n)) (AMark true) nothing h tt tt refl
 perform_well (Settle n state) w h b = settle_well w n state (object_in w.store n).class h b (h.store.objects n).class

@@ -87,7 +87,7 @@ perform_within (Make t) w h = charged_within (some_slots (size t)) (length w.sto
 perform_within (Apply n m) w h =
     let before : ObjectRecord = object_in w.store n in
     apply_within w n m before (apply_method m w.store n before).answer (apply_method m w.store n before).written h
-perform_within (Attach f p) w h = h
+perform_within (Attach f p a) w h = h
 perform_within (SetCell n v) w h = written_within w n (ACell (cell_in w.store n)) (ACell (record { value = Some v; const = (cell_in w.store n).const })) nothing tt h
 perform_within (SetMark n) w h = written_within w n (AMark (mark_in w.store n)) (AMark true) nothing tt h
 perform_within (Settle n state) w h = settle_within w n state (object_in w.store n) (object_in w.store n).class h

@@ -1,11 +1,11 @@
 -- Cells, defines, sets, deletes and equality are the same but for the numbers of things.
-use Rattle.std.proofs.Common.{◌≡◌, ℕ, zero, suc, ◌<◌, Bool, true, false, cond, not, ◌&&◌, ◌||◌, ℤ, pos, negsuc, nat_lt, arith, refl, ap, Option, is_some, lit≤}
+use Rattle.std.proofs.Common.{◌≡◌, ℕ, zero, suc, ◌<◌, Bool, true, false, cond, not, ◌&&◌, ◌||◌, ℤ, pos, negsuc, nat_lt, arith, refl, ap, ap₂, Option, is_some, lit≤}
 use Rattle.std.proofs.lemmas.Bool.Decides.{nat_tests}
 use Rattle.js_value.specs.Value.{Value, Number, Text, Key, is_index, text_of_key}
 use Rattle.js_value.specs.Store.{Property, Class, is_length_of}
 use Rattle.js_value.specs.Order.{IsString, IsKey}
 use Rattle.es_ops.specs.Equality.{same_value}
-use Rattle.es_ops.specs.Messages.{InvalidArrayLength, NotDefinable, AccessorOnIndex}
+use Rattle.es_ops.specs.Messages.{AssignmentToConstant, InvalidArrayLength, NotDefinable, AccessorOnIndex}
 use Rattle.es_ops.specs.InternalMethods.{PropertyDescriptor, DefineOwnProperty, SetStep}
 use Rattle.es_ops.specs.Events.{Apply}
 use Rattle.es_ops.specs.Act.{Act, Do}
@@ -13,14 +13,18 @@ use Rattle.es_ops.specs.Errors.{raise}
 use Rattle.es_ops.specs.PropertyReads.{StringProperty, AUnit, Length, Inherits}
 use Rattle.es_ops.specs.Conversions.{Comparison, Equals, NumberLeft, NumberRight, PrimitiveLeft, PrimitiveRight, comparison, next_comparison, loosely_equal_within, is_loosely_equal}
 use Rattle.es_ops.specs.Bindings.{make_cell, initialize_cell, value_or_raise, read_cell, write_cell, copy_cell}
-use Rattle.es_ops.specs.PropertyWrites.{NumberConversion, length_or_raise, with_length_value, define_own_property, accepted_or, define_property_or_throw, create_data_property, create_data_property_or_throw, take_set_step, set_found, ordinary_set, set_inherited, set_on_string, set_v, set_or_throw, put_value, delete_property_or_throw, delete_on_string, delete_v}
+use Rattle.es_ops.specs.PropertyWrites.{NumberConversion, length_or_raise, with_length_value, is_accessor_on_index, define_own_property, accepted_or, define_property_or_throw, create_data_property, create_data_property_or_throw, take_set_step, set_found, ordinary_set, set_inherited, set_on_string, set_v, set_or_throw, put_value, delete_property_or_throw, delete_on_string, delete_v}
 use Rattle.es_ops.specs.Related.{Naming, BothOption, BothNone, BothSome, BothValue, BothUndefined, BothNull, BothBoolean, BothNumber, BothString, BothObject, BothProperty, BothClass, BothOrdinary, BothArray, BothScript, BothBuiltIn, BothResolve, BothReject, BothError, BothPromise, BothDescriptor, BothSetStep, BothRefuses, BothCalls, BothDefines, Related, BothAsk, BothDo, Then, IsOneToOne, intrinsics}
 use Rattle.es_ops.specs.Handed.{Converts}
-use Rattle.es_ops.proofs.Acting.{acting}
+use Rattle.es_ops.proofs.Acting.{acting, ask_cell, do_cell}
 use Rattle.es_ops.proofs.Parts.{cond_related, same_number}
 use Rattle.es_ops.proofs.ReadsRelated.{raise_related, to_primitive_related, to_number_related, number_expected_related}
 
 -- ---- cells
+
+pub is_some_same : {A : Type 0} {B : A → A → Type 0} {x y : Option A} → BothOption B x y → is_some x ≡ is_some y
+is_some_same BothNone = refl
+is_some_same (BothSome b) = refl
 
 pub make_cell_related : {R : Naming} (const : Bool) (k l : ℕ → Act) → Then R R k l → Related R (make_cell const k) (make_cell const l)
 unfolding make_cell
@@ -28,7 +32,7 @@ make_cell_related const k l h = search (acting, refl)
 
 pub initialize_cell_related : {R : Naming} (c d : ℕ) (v w : Value) (k l : Act) → R c d → BothValue R v w → Related R k l → Related R (initialize_cell c v k) (initialize_cell d w l)
 unfolding initialize_cell
-initialize_cell_related c d v w k l r b h = search (acting)
+initialize_cell_related c d v w k l r b h = ask_cell r (λ x y t e. rw (is_some_same e) (cond_related (t && is_some y) _ _ _ _ (raise_related AssignmentToConstant) (do_cell r b h)))
 
 pub value_or_raise_related : {R : Naming} {v w : Option Value} (k l : Value → Act) → BothOption (BothValue R) v w → Then R (BothValue R) k l → Related R (value_or_raise v k) (value_or_raise w l)
 value_or_raise_related k l BothNone h = search (acting, raise_related)
@@ -84,13 +88,12 @@ pub accepted_related : {R : Naming} (f g k l : Act) (b : Bool) → Related R f g
 accepted_related f g k l true e h = search (acting)
 accepted_related f g k l false e h = search (acting)
 
-pub is_some_same : {A : Type 0} {B : A → A → Type 0} {x y : Option A} → BothOption B x y → is_some x ≡ is_some y
-is_some_same BothNone = refl
-is_some_same (BothSome b) = refl
+on_index_same : {R : Naming} (key : Key) (d e : PropertyDescriptor) → BothDescriptor R d e → is_accessor_on_index key d ≡ is_accessor_on_index key e
+on_index_same key d e b = ap₂ (λ x y. is_index key && x && not y) (ap₂ (λ x y. x || y) (is_some_same b.get) (is_some_same b.set)) (ap₂ (λ x y. x || y) (is_some_same b.value) (ap (λ w. is_some w) b.writable))
 
 pub define_or_throw_related : {R : Naming} (convert : NumberConversion) → Converts R convert → (m n : ℕ) (key : Key) (d e : PropertyDescriptor) (k l : Act) → R m n → IsKey key → BothDescriptor R d e → Related R k l → Related R (define_property_or_throw convert m key d k) (define_property_or_throw convert n key e l)
 unfolding define_property_or_throw
-define_or_throw_related convert c m n key d e k l r i b h = rw (is_some_same b.get, is_some_same b.set) (cond_related (is_index key && (is_some e.get || is_some e.set)) _ _ _ _ (raise_related AccessorOnIndex) (define_related convert c m n key d e _ _ r i b (λ x. accepted_related _ _ _ _ x (raise_related NotDefinable) h)))
+define_or_throw_related convert c m n key d e k l r i b h = rw (on_index_same key d e b) (cond_related (is_accessor_on_index key e) _ _ _ _ (raise_related AccessorOnIndex) (define_related convert c m n key d e _ _ r i b (λ x. accepted_related _ _ _ _ x (raise_related NotDefinable) h)))
 
 pub create_related : {R : Naming} (m n : ℕ) (key : Key) (v w : Value) (k l : Bool → Act) → R m n → IsKey key → BothValue R v w → ((b : Bool) → Related R (k b) (l b)) → Related R (create_data_property m key v k) (create_data_property n key w l)
 unfolding create_data_property

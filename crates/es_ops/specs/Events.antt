@@ -1,7 +1,7 @@
 -- What operations may ask of the world and do to it. Each deed is one event of the ledger.
 use Rattle.std.specs.Prelude.{ℕ, Bool, true, not, List, [], ◌∷◌, ◌++◌, length, ◌==◌, Option, Some, None, get_or, set, slice_get, filter, codes}
 use Rattle.js_value.specs.Value.{Value, Object, Text, Key, Named}
-use Rattle.js_value.specs.Store.{Store, Thing, AnObject, ACell, AMark, ObjectRecord, CellRecord, Property, Content, Data, Accessor, Class, Promise, PromiseState, Pending, Reaction, object_in, cell_in, mark_in, own_property, with_property, size}
+use Rattle.js_value.specs.Store.{Store, Thing, AnObject, ACell, AMark, ObjectRecord, CellRecord, Property, Content, Data, Accessor, Class, ScriptFunction, Promise, PromiseState, Pending, Reaction, object_in, cell_in, mark_in, own_property, with_property, size}
 use Rattle.js_value.specs.Job.{Job}
 use Rattle.es_ops.specs.State.{World, nothing, some_slots, some_units, plus, Wrote, Took}
 use Rattle.es_ops.specs.InternalMethods.{Method, apply_method, find_property, SetStep, set_step}
@@ -41,7 +41,7 @@ reply TheInput w = w.input
 pub data Deed : Type 0 where
   Make : Thing → Deed  -- a new thing
   Apply : ℕ → Method → Deed  -- an internal method on an object
-  Attach : (function prototype : ℕ) → Deed  -- gives a function that is being made its `prototype`
+  Attach : (function prototype : ℕ) → (is_home : Bool) → Deed  -- gives a function that is being made its `prototype`
   SetCell : ℕ → Value → Deed
   SetMark : ℕ → Deed
   Settle : ℕ → PromiseState → Deed  -- a promise that is pending
@@ -78,7 +78,8 @@ apply n m w =
     let outcome = apply_method m w.store n before in
     apply_outcome w n m before outcome.answer outcome.written
 
--- MakeConstructor (10.2.5), step 6, for a function that nobody has seen: no write
+-- MakeConstructor (10.2.5), step 6, and for a class MakeMethod (10.2.7), whose home object is the prototype. It is no
+-- write, and asks for a function that the same operation made and that nobody has seen.
 abbrev pub prototype_name : Text
 prototype_name = codes "prototype"
 
@@ -90,9 +91,16 @@ abbrev pub with_prototype : ℕ → ObjectRecord → Option Property → ObjectR
 with_prototype p o None = o
 with_prototype p o (Some q) = with_property o (Named prototype_name) (record q { content = pointing_to p q.content })
 
-abbrev pub attached : ℕ → Option Thing → Store → ℕ → Store
-attached p (Some (AnObject o)) s f = set s f (AnObject (with_prototype p o (own_property o (Named prototype_name))))
-attached p _ s f = s
+abbrev pub at_home : ℕ → Bool → Class → Class
+at_home p true (ScriptFunction module_number function_number home captured) = ScriptFunction module_number function_number (Some p) captured
+at_home p is_home c = c
+
+abbrev pub with_home : ℕ → Bool → ObjectRecord → ObjectRecord
+with_home p is_home o = record o { class = at_home p is_home o.class }
+
+abbrev pub attached : (prototype : ℕ) → (is_home : Bool) → Option Thing → Store → (function : ℕ) → Store
+attached p is_home (Some (AnObject o)) s f = set s f (AnObject (with_home p is_home (with_prototype p o (own_property o (Named prototype_name)))))
+attached p is_home _ s f = s
 
 abbrev pub set_cell : ℕ → Value → World → Event (Unit {0})
 set_cell n v w =
@@ -126,7 +134,7 @@ dequeue (job ∷ jobs) w = Happens (Some job) (record w { jobs = jobs })
 unfoldable pub perform : (d : Deed) → World → Event (Answer d)
 perform (Make t) w = make t w
 perform (Apply n m) w = apply n m w
-perform (Attach f p) w = Happens tt (record w { store = attached p (slice_get w.store f) w.store f })
+perform (Attach f p is_home) w = Happens tt (record w { store = attached p is_home (slice_get w.store f) w.store f })
 perform (SetCell n v) w = set_cell n v w
 perform (SetMark n) w = set_mark n w
 perform (Settle n state) w = settle n state w

@@ -70,7 +70,7 @@ EndAlikeUnlessFull _ _ = ⊥
 
 abbrev pub changes : Deed → ℕ → Bool
 changes (Apply n m) k = n == k
-changes (Attach f p) k = f == k
+changes (Attach f p is_home) k = f == k
 changes (SetCell n v) k = n == k
 changes (SetMark n) k = n == k
 changes (Settle n state) k = n == k
@@ -108,7 +108,7 @@ AreModulesBelow m (s ∷ ss) = AreNumbersBelow m s.cells × AreModulesBelow m ss
 abbrev pub IsDeedBelow : ℕ → Deed → Type 0
 IsDeedBelow m (Make t) = IsThingBelow m t × IsThingOrderly t
 IsDeedBelow m (Apply n method) = IsMethodBelow m method
-IsDeedBelow m (Attach f p) = p < m
+IsDeedBelow m (Attach f p is_home) = p < m
 IsDeedBelow m (SetCell n v) = IsValueBelow m v
 IsDeedBelow m (Settle n state) = IsStateBelow m state
 IsDeedBelow m (AddReaction n r) = IsReactionBelow m r

@@ -2,7 +2,7 @@
 use Rattle.std.specs.Prelude.{ℕ, Bool, true, false, cond, not, ◌&&◌, [], ◌∷◌, ℤ, pos, negsuc, nat_lt, Option, Some, None}
 use Rattle.js_value.specs.Value.{Value, Undefined, Null, Boolean, Number, String, Object, Text, Key, is_index, text_of_key}
 use Rattle.js_value.specs.Store.{Property, is_length_of}
-use Rattle.es_ops.specs.InternalMethods.{PropertyDescriptor, data_descriptor, is_accessor_descriptor, DefineOwnProperty, Delete, SetStep, RefusesSet, CallsSetter, DefinesOn}
+use Rattle.es_ops.specs.InternalMethods.{PropertyDescriptor, data_descriptor, is_accessor_descriptor, is_data_descriptor, DefineOwnProperty, Delete, SetStep, RefusesSet, CallsSetter, DefinesOn}
 use Rattle.es_ops.specs.Messages.{InvalidArrayLength, NoProperties, NotWritable, NotDefinable, NotDeletable, AccessorOnIndex}
 use Rattle.es_ops.specs.Events.{TheObject, TheProperty, TheSetStep, TheIntrinsic, Apply}
 use Rattle.es_ops.specs.Act.{Act, Ask, Do, Call}
@@ -31,14 +31,17 @@ define_own_property convert n key d k = Ask (TheObject n) (λ o.
     (with_length_value convert d d.value (λ d. Do (Apply n (DefineOwnProperty key d)) k))
     (Do (Apply n (DefineOwnProperty key d)) k))
 
--- DefinePropertyOrThrow (7.3.8). Own rule: an accessor on an index is an error of its own.
+-- DefinePropertyOrThrow (7.3.8). Own rule: an accessor on an index is an error of its own, after those of the descriptor.
+abbrev pub is_accessor_on_index : Key → PropertyDescriptor → Bool
+is_accessor_on_index key d = is_index key && is_accessor_descriptor d && not (is_data_descriptor d)
+
 abbrev pub accepted_or : Act → Act → Bool → Act
 accepted_or failure k true = k
 accepted_or failure k false = failure
 
 unfoldable pub define_property_or_throw : NumberConversion → ℕ → Key → PropertyDescriptor → Act → Act
 define_property_or_throw convert n key d k =
-    cond (is_index key && is_accessor_descriptor d) (raise AccessorOnIndex)
+    cond (is_accessor_on_index key d) (raise AccessorOnIndex)
     (define_own_property convert n key d (accepted_or (raise NotDefinable) k))
 
 -- CreateDataProperty (7.3.5), CreateDataPropertyOrThrow (7.3.6)

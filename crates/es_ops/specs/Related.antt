@@ -142,7 +142,7 @@ BothReply R _ _ r s = ⊥
 abbrev pub BothDeed : Naming → Deed → Deed → Type 0
 BothDeed R (Make t) (Make u) = BothThing R t u × IsThingOrderly t
 BothDeed R (Apply m f) (Apply n g) = R m n × BothMethod R f g
-BothDeed R (Attach f p) (Attach g q) = R f g × R p q
+BothDeed R (Attach f p a) (Attach g q b) = R f g × R p q × (a ≡ b)
 BothDeed R (SetCell m v) (SetCell n w) = R m n × BothValue R v w
 BothDeed R (SetMark m) (SetMark n) = R m n
 BothDeed R (Settle m s) (Settle n t) = R m n × BothState R s t
