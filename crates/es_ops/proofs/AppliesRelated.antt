@@ -1,18 +1,18 @@
 -- Internal methods, and the attachment of a prototype, over two worlds; and the whole law.
-use Rattle.std.proofs.Common.{◌≡◌, ℕ, zero, suc, ◌-◌, Bool, true, false, cond, not, ◌||◌, [], ◌∷◌, ◌++◌, nat_lt, refl, ap, ap₂, Option, Some, None, slice_get}
+use Rattle.std.proofs.Common.{◌≡◌, ℕ, ◌-◌, Bool, true, false, cond, not, ◌||◌, [], ◌∷◌, ◌++◌, nat_lt, refl, ap, ap₂, Option, Some, None, slice_get}
 use Rattle.js_value.specs.Value.{Text, Key, Index, Named, Numeral}
 use Rattle.js_value.specs.Store.{Thing, AnObject, ObjectRecord, Property, Content, Class, as_object, object_in}
 use Rattle.js_value.specs.Order.{IsOrderly}
 use Rattle.es_ops.specs.State.{World, State, plus, some_slots}
 use Rattle.es_ops.specs.Ledger.{written, growth, new_name, name_price, name_added, name_cost, with_name}
-use Rattle.es_ops.specs.InternalMethods.{Method, DefineOwnProperty, Delete, PreventExtensions, SetPrototypeOf, Freeze, apply_method, refused, unchanged, wrote, set_prototype_of, same_prototype, on_chain, longest}
+use Rattle.es_ops.specs.InternalMethods.{Method, DefineOwnProperty, Delete, PreventExtensions, SetPrototypeOf, Freeze, apply_method, refused, unchanged, wrote, set_prototype_of, same_prototype, longest}
 use Rattle.es_ops.specs.Events.{apply_outcome, attached, at_home, with_home, with_prototype, pointing_to, prototype_name}
 use Rattle.es_ops.specs.Act.{Act, Calls, run}
 use Rattle.es_ops.specs.Related.{BothOption, BothNone, BothSome, BothObject, BothContent, BothData, BothAccessor, BothProperty, BothClass, BothOrdinary, BothArray, BothScript, BothBuiltIn, BothResolve, BothReject, BothError, BothPromise, BothRecord, BothThing, BothAnObject, BothACell, BothAMark, BothMethod}
 use Rattle.es_ops.specs.Renaming.{Pairs, named, Kept, BothWorld, BothSides, BothEvent, BothRan, BothCalling}
 use Rattle.es_ops.proofs.Parts.{same_number}
 use Rattle.es_ops.proofs.RunsRelated.{run_related}
-use Rattle.es_ops.proofs.RepliesRelated.{object_both, own_property_both, reply_related}
+use Rattle.es_ops.proofs.RepliesRelated.{chain_same, object_both, own_property_both, reply_related}
 use Rattle.es_ops.proofs.WorldsRelated.{lengths_same, object_size_same, put_both, written_both}
 use Rattle.es_ops.proofs.DeedsRelated.{Applies, Attaches, perform_related}
 use Rattle.es_ops.proofs.MethodsRelated.{BothOutcome, with_property_both, define_both, delete_both, prevent_both, freeze_both}
@@ -26,15 +26,9 @@ module _ (ps : Pairs) (w v : World) (b : BothWorld ps w v) where
   same_prototype_same (BothSome r) BothNone = refl
   same_prototype_same (BothSome r) (BothSome s) = same_number b.one_to_one _ _ _ _ r s
 
-  chain_same : (fuel m n : ℕ) {x y : Option ℕ} → named ps m n → BothOption (named ps) x y → on_chain fuel w.store m x ≡ on_chain fuel v.store n y
-  unfolding on_chain
-  chain_same fuel m n r BothNone = refl
-  chain_same zero m n r (BothSome s) = refl
-  chain_same (suc fuel) m n r (BothSome {x = x} {y = y} s) = ap₂ (λ a c. a || c) (same_number b.one_to_one x y m n s r) (chain_same fuel m n r (object_both ps w v b x y s).prototype)
-
   set_prototype_both : (m n : ℕ) (x y : Option ℕ) (o p : ObjectRecord) → named ps m n → BothOption (named ps) x y → BothRecord (named ps) o p → BothOutcome (named ps) (set_prototype_of w.store m x o) (set_prototype_of v.store n y p)
   unfolding set_prototype_of
-  set_prototype_both m n x y o p r h g = by_tests _ _ _ _ (same_prototype_same h g.prototype) (ap₂ (λ a c. not a || c) g.extensible (chain_same longest m n r h))
+  set_prototype_both m n x y o p r h g = by_tests _ _ _ _ (same_prototype_same h g.prototype) (ap₂ (λ a c. not a || c) g.extensible (chain_same ps w v b longest m n r h))
     where
       at : (c d : Bool) → BothOutcome (named ps) (cond c unchanged (cond d refused (wrote (record o { prototype = x })))) (cond c unchanged (cond d refused (wrote (record p { prototype = y }))))
       at true d = record { answer = refl; written = BothNone }
@@ -78,7 +72,7 @@ module _ (ps : Pairs) (w v : World) (b : BothWorld ps w v) where
 
   with_name_both : (t : Option Text) → BothWorld ps (with_name t w) (with_name t v)
   with_name_both None = b
-  with_name_both (Some t) = record { one_to_one = b.one_to_one; stand = b.stand; things = b.things; realm = b.realm; names = ap (λ ns. ns ++ t ∷ []) b.names; used = b.used; room = b.room; costs = b.costs; costs_left = b.costs_left; costs_right = b.costs_right; jobs = b.jobs; rejections = b.rejections; modules = b.modules; trace = b.trace; input = b.input }
+  with_name_both (Some t) = record { one_to_one = b.one_to_one; stand = b.stand; things = b.things; realm = b.realm; names = ap (λ ns. ns ++ t ∷ []) b.names; used = b.used; room = b.room; costs = b.costs; costs_left = b.costs_left; costs_right = b.costs_right; jobs = b.jobs; rejections = b.rejections; modules = b.modules; functions = b.functions; trace = b.trace; input = b.input }
 
   outcome_both : (m n : ℕ) (f g : Method) (o p : ObjectRecord) (x y : Bool) {i j : Option ObjectRecord} → named ps m n → BothMethod (named ps) f g → BothRecord (named ps) o p → x ≡ y → BothOption (BothRecord (named ps)) i j → BothEvent ps (λ R a b. a ≡ b) (apply_outcome w m f o x i) (apply_outcome v n g p y j)
   outcome_both m n f g o p x y r h i e BothNone = (ps, λ i j z. z, b, e)

@@ -6,7 +6,7 @@ use Rattle.js_value.specs.declared.counts.Room.{Room}
 use Rattle.es_ops.specs.State.{World, plus, nothing, some_slots, some_units, TraceEvent, Wrote, Took}
 use Rattle.es_ops.specs.Laws.{IsWorldWellFormed}
 use Rattle.es_ops.specs.InternalMethods.{Method}
-use Rattle.es_ops.specs.Events.{perform, Make, Apply, Attach, SetCell, SetMark, Settle, AddReaction, Enqueue, Dequeue, AddRejection, RemoveRejection, MakeText, Write, Take, apply, attached, settle_class, react_class, dequeue}
+use Rattle.es_ops.specs.Events.{perform, Make, Apply, Attach, SetCell, SetMark, Settle, TakeReaction, AddReaction, Enqueue, Dequeue, AddRejection, RemoveRejection, MakeText, Write, Take, apply, attached, settle_class, take_reaction_class, react_class, dequeue}
 use Rattle.es_ops.proofs.Others.{get-append}
 use Rattle.es_ops.specs.Related.{BothOption, BothNone, BothSome, BothList, BothEmpty, BothCons, BothState, BothPending, BothFulfilled, BothRejected, BothReaction, BothClass, BothOrdinary, BothArray, BothScript, BothBuiltIn, BothResolve, BothReject, BothError, BothPromise, BothRecord, BothThing, BothAnObject, BothACell, BothAMark, BothJob, BothMethod, IsOneToOne}
 use Rattle.es_ops.specs.Renaming.{Pairs, named, Extends, BothModule, BothWorld, BothEvent}
@@ -14,7 +14,7 @@ use Rattle.es_ops.proofs.Parts.{same_number}
 use Rattle.es_ops.proofs.MoreNames.{option_more, list_more, thing_more, job_more, module_more}
 use Rattle.es_ops.proofs.RunsRelated.{Performs}
 use Rattle.es_ops.proofs.RepliesRelated.{object_both, as_cell_both, as_mark_same}
-use Rattle.es_ops.proofs.WorldsRelated.{size_same, object_size_same, cost_past, unless_both, written_both}
+use Rattle.es_ops.proofs.WorldsRelated.{lengths_same, put_both, size_same, object_size_same, cost_past, unless_both, written_both}
 
 -- internal methods
 abbrev pub Applies : Type 0
@@ -36,7 +36,7 @@ module _ (ps : Pairs) (w v : World) (b : BothWorld ps w v) where
   -- worlds of the same things
   rest_both : (x y : Room) (js ks : List Job) (ms ns : List ℕ) (t u : List TraceEvent) (i j : Option (List ℕ)) → x ≡ y → BothList (BothJob (named ps)) js ks → BothList (named ps) ms ns → t ≡ u → i ≡ j
       → BothWorld ps (record w { ledger = record w.ledger { used = x }; jobs = js; rejections = ms; trace = t; input = i }) (record v { ledger = record v.ledger { used = y }; jobs = ks; rejections = ns; trace = u; input = j })
-  rest_both x y js ks ms ns t u i j e h r f g = record { one_to_one = b.one_to_one; stand = b.stand; things = b.things; realm = b.realm; names = b.names; used = e; room = b.room; costs = b.costs; costs_left = b.costs_left; costs_right = b.costs_right; jobs = h; rejections = r; modules = b.modules; trace = f; input = g }
+  rest_both x y js ks ms ns t u i j e h r f g = record { one_to_one = b.one_to_one; stand = b.stand; things = b.things; realm = b.realm; names = b.names; used = e; room = b.room; costs = b.costs; costs_left = b.costs_left; costs_right = b.costs_right; jobs = h; rejections = r; modules = b.modules; functions = b.functions; trace = f; input = g }
 
   -- the pair of two things that are made
   made : Pairs
@@ -78,7 +78,7 @@ module _ (ps : Pairs) (w v : World) (b : BothWorld ps w v) where
         one_to_one = made_one;
         stand = λ m n r. by_stand m n r;
         things = λ m n r. by_thing m n r;
-        realm = λ at l. up _ _ (b.realm at l);
+        realm = λ i. up _ _ (b.realm i);
         names = b.names;
         used = e;
         room = b.room;
@@ -88,6 +88,7 @@ module _ (ps : Pairs) (w v : World) (b : BothWorld ps w v) where
         jobs = list_more (BothJob (named ps)) (BothJob (named made)) (job_more (named ps) (named made) up) b.jobs;
         rejections = list_more (named ps) (named made) up b.rejections;
         modules = list_more (BothModule (named ps)) (BothModule (named made)) (module_more (named ps) (named made) up) b.modules;
+        functions = b.functions;
         trace = b.trace;
         input = b.input;
       }
@@ -105,17 +106,28 @@ module _ (ps : Pairs) (w v : World) (b : BothWorld ps w v) where
       by_cost m n (inr r) = b.costs m n r
 
   -- promises
-  settle_both : (m n : ℕ) {s t : PromiseState} (c d : Class) → named ps m n → BothState (named ps) s t → BothClass (named ps) c d → BothEvent ps (λ R. BothOption (BothList (BothReaction R))) (settle_class w m s (object_in w.store m) c) (settle_class v n t (object_in v.store n) d)
-  settle_both m n c d r s (BothPromise BothPending rs) = let o = object_both ps w v b m n r in written_both ps w v b (λ R. BothOption (BothList (BothReaction R))) m n _ _ _ _ nothing nothing _ _ r (BothAnObject o) (BothAnObject (record { class = BothPromise s BothEmpty; prototype = o.prototype; extensible = o.extensible; indexed = o.indexed; named = o.named })) refl (BothSome rs)
-  settle_both m n c d r s (BothPromise (BothFulfilled x) rs) = (ps, λ i j z. z, b, BothNone)
-  settle_both m n c d r s (BothPromise (BothRejected x) rs) = (ps, λ i j z. z, b, BothNone)
-  settle_both m n c d r s BothOrdinary = (ps, λ i j z. z, b, BothNone)
-  settle_both m n c d r s BothArray = (ps, λ i j z. z, b, BothNone)
-  settle_both m n c d r s (BothScript x y) = (ps, λ i j z. z, b, BothNone)
-  settle_both m n c d r s BothBuiltIn = (ps, λ i j z. z, b, BothNone)
-  settle_both m n c d r s (BothResolve x y) = (ps, λ i j z. z, b, BothNone)
-  settle_both m n c d r s (BothReject x y) = (ps, λ i j z. z, b, BothNone)
-  settle_both m n c d r s BothError = (ps, λ i j z. z, b, BothNone)
+  settle_both : (m n : ℕ) {s t : PromiseState} (c d : Class) → named ps m n → BothState (named ps) s t → BothClass (named ps) c d → BothEvent ps (λ R a b. a ≡ b) (settle_class w m s (object_in w.store m) c) (settle_class v n t (object_in v.store n) d)
+  settle_both m n c d r s (BothPromise BothPending rs) = let o = object_both ps w v b m n r in written_both ps w v b (λ R a b. a ≡ b) m n _ _ _ _ nothing nothing _ _ r (BothAnObject o) (BothAnObject (record { class = BothPromise s rs; prototype = o.prototype; extensible = o.extensible; indexed = o.indexed; named = o.named })) refl (ap Some (lengths_same rs))
+  settle_both m n c d r s (BothPromise (BothFulfilled x) rs) = (ps, λ i j z. z, b, refl)
+  settle_both m n c d r s (BothPromise (BothRejected x) rs) = (ps, λ i j z. z, b, refl)
+  settle_both m n c d r s BothOrdinary = (ps, λ i j z. z, b, refl)
+  settle_both m n c d r s BothArray = (ps, λ i j z. z, b, refl)
+  settle_both m n c d r s (BothScript x y) = (ps, λ i j z. z, b, refl)
+  settle_both m n c d r s BothBuiltIn = (ps, λ i j z. z, b, refl)
+  settle_both m n c d r s (BothResolve x y) = (ps, λ i j z. z, b, refl)
+  settle_both m n c d r s (BothReject x y) = (ps, λ i j z. z, b, refl)
+  settle_both m n c d r s BothError = (ps, λ i j z. z, b, refl)
+
+  take_both : (m n : ℕ) (c d : Class) → named ps m n → BothClass (named ps) c d → BothEvent ps (λ R. BothOption (BothReaction R)) (take_reaction_class w m (object_in w.store m) c) (take_reaction_class v n (object_in v.store n) d)
+  take_both m n c d r (BothPromise s (BothCons x rs)) = let o = object_both ps w v b m n r in (ps, λ i j z. z, put_both ps w v b m n _ _ r (BothAnObject (record { class = BothPromise s rs; prototype = o.prototype; extensible = o.extensible; indexed = o.indexed; named = o.named })), BothSome x)
+  take_both m n c d r (BothPromise s BothEmpty) = (ps, λ i j z. z, b, BothNone)
+  take_both m n c d r BothOrdinary = (ps, λ i j z. z, b, BothNone)
+  take_both m n c d r BothArray = (ps, λ i j z. z, b, BothNone)
+  take_both m n c d r (BothScript x y) = (ps, λ i j z. z, b, BothNone)
+  take_both m n c d r BothBuiltIn = (ps, λ i j z. z, b, BothNone)
+  take_both m n c d r (BothResolve x y) = (ps, λ i j z. z, b, BothNone)
+  take_both m n c d r (BothReject x y) = (ps, λ i j z. z, b, BothNone)
+  take_both m n c d r BothError = (ps, λ i j z. z, b, BothNone)
 
   react_both : (m n : ℕ) (x y : Reaction) (c d : Class) → named ps m n → BothReaction (named ps) x y → BothClass (named ps) c d → BothEvent ps (λ R a b. Unit {0}) (react_class w m x (object_in w.store m) c) (react_class v n y (object_in v.store n) d)
   react_both m n x y c d r s (BothPromise {rs = rs'} {qs = qs'} BothPending rs) =
@@ -155,6 +167,7 @@ perform_related f g ps (Attach m p a) (Attach n q c) w v h b well = rw h.2 (ps, 
 perform_related f g ps (SetCell m x) (SetCell n y) w v h b well = let c = as_cell_both (named ps) (b.things m n h.0) in written_both ps w v b (λ R a b. Unit {0}) m n _ _ _ _ nothing nothing tt tt h.0 (BothACell c) (BothACell (record { value = BothSome h.1; const = c.const })) refl tt
 perform_related f g ps (SetMark m) (SetMark n) w v h b well = rw (as_mark_same (named ps) (b.things m n h)) (written_both ps w v b (λ R a b. Unit {0}) m n _ _ _ _ nothing nothing tt tt h BothAMark BothAMark refl tt)
 perform_related f g ps (Settle m s) (Settle n t) w v h b well = settle_both ps w v b m n _ _ h.0 h.1 (object_both ps w v b m n h.0).class
+perform_related f g ps (TakeReaction m) (TakeReaction n) w v h b well = take_both ps w v b m n _ _ h (object_both ps w v b m n h).class
 perform_related f g ps (AddReaction m x) (AddReaction n y) w v h b well = react_both ps w v b m n x y _ _ h.0 h.1 (object_both ps w v b m n h.0).class
 perform_related f g ps (Enqueue i) (Enqueue j) w v h b well = unless_both ps w v b (λ R a b. Unit {0}) ps (some_slots 4) (some_slots 4) tt tt _ _ (λ i j z. z) refl (rest_both ps w v b _ _ _ _ _ _ _ _ _ _ (ap (λ u. plus u (some_slots 4)) b.used) (append_list b.jobs h) b.rejections b.trace b.input) tt
 perform_related f g ps Dequeue Dequeue w v h b well = dequeue_both ps w v b w.jobs v.jobs b.jobs

@@ -3,6 +3,7 @@ use Rattle.std.proofs.Common.{◌≡◌, ℕ, zero, suc, ◌<◌, inl, inr, true
 use Rattle.js_value.specs.Value.{Object, Index}
 use Rattle.js_value.specs.Store.{Store, AnObject, AMark, Ordinary, ObjectRecord}
 use Rattle.js_value.specs.declared.counts.Room.{Room}
+use Rattle.es_ops.specs.Intrinsics.{Intrinsic, place_of, ObjectPrototype, FunctionPrototype, ErrorPrototype, RangeErrorPrototype, ReferenceErrorPrototype, SyntaxErrorPrototype, TypeErrorPrototype, BooleanPrototype, NumberPrototype, MathObject, PromisePrototype, StringPrototype, ArrayPrototype, ObjectFunction, FunctionFunction, ErrorFunction, RangeErrorFunction, ReferenceErrorFunction, SyntaxErrorFunction, TypeErrorFunction, BooleanFunction, NumberFunction, ParseIntFunction, PromiseFunction, StringFunction, ArrayFunction, PrintCell, ReadCell}
 use Rattle.es_ops.specs.State.{World, State}
 use Rattle.es_ops.specs.Act.{Give, Calls, run, Ran, Ends, Halts}
 use Rattle.es_ops.specs.Laws.{IsWorldWellFormed, state_of}
@@ -32,7 +33,7 @@ zero_counts : Room
 zero_counts = record { slots = 0; units = 0; names = 0 }
 
 world_of : Store → List ℕ → World
-world_of s realm = record { store = s; realm = realm; names = []; ledger = record { used = zero_counts; room = plenty; first_costs = [] }; jobs = []; rejections = []; modules = []; trace = []; input = None }
+world_of s realm = record { store = s; realm = realm; names = []; ledger = record { used = zero_counts; room = plenty; first_costs = [] }; jobs = []; rejections = []; modules = []; functions = []; trace = []; input = None }
 
 left : State
 left = record { world = world_of (AnObject object ∷ []) []; meter = 5; depth = 0 }
@@ -47,8 +48,39 @@ one_at zero at l = absurd (omega arith)
 one_at (suc n) zero l = refl
 one_at (suc n) (suc at) l = one_at n at (omega arith)
 
+-- every intrinsic has its place in the realm
+in_realm : (i : Intrinsic) → place_of i < 104
+in_realm ObjectPrototype = lit≤ tt
+in_realm FunctionPrototype = lit≤ tt
+in_realm ErrorPrototype = lit≤ tt
+in_realm RangeErrorPrototype = lit≤ tt
+in_realm ReferenceErrorPrototype = lit≤ tt
+in_realm SyntaxErrorPrototype = lit≤ tt
+in_realm TypeErrorPrototype = lit≤ tt
+in_realm BooleanPrototype = lit≤ tt
+in_realm NumberPrototype = lit≤ tt
+in_realm MathObject = lit≤ tt
+in_realm PromisePrototype = lit≤ tt
+in_realm StringPrototype = lit≤ tt
+in_realm ArrayPrototype = lit≤ tt
+in_realm ObjectFunction = lit≤ tt
+in_realm FunctionFunction = lit≤ tt
+in_realm ErrorFunction = lit≤ tt
+in_realm RangeErrorFunction = lit≤ tt
+in_realm ReferenceErrorFunction = lit≤ tt
+in_realm SyntaxErrorFunction = lit≤ tt
+in_realm TypeErrorFunction = lit≤ tt
+in_realm BooleanFunction = lit≤ tt
+in_realm NumberFunction = lit≤ tt
+in_realm ParseIntFunction = lit≤ tt
+in_realm PromiseFunction = lit≤ tt
+in_realm StringFunction = lit≤ tt
+in_realm ArrayFunction = lit≤ tt
+in_realm PrintCell = lit≤ tt
+in_realm ReadCell = lit≤ tt
+
 right : State
-right = record { world = world_of (AMark false ∷ AnObject object ∷ []) (ones 13); meter = 5; depth = 0 }
+right = record { world = world_of (AMark false ∷ AnObject object ∷ []) (ones 104); meter = 5; depth = 0 }
 
 start : Pairs
 start = (0, 1) ∷ []
@@ -71,7 +103,7 @@ sides = record {
     one_to_one = record { forth = λ m n o r s. by_forth m n o r s; back = λ m n o r s. by_back m n o r s };
     stand = λ m n r. by_stand m n r;
     things = λ m n r. by_thing m n r;
-    realm = λ at l. inl (refl, one_at 13 at l);
+    realm = λ i. inl (refl, one_at 104 (place_of i) (in_realm i));
     names = refl;
     used = refl;
     room = refl;
@@ -81,6 +113,7 @@ sides = record {
     jobs = BothEmpty;
     rejections = BothEmpty;
     modules = BothEmpty;
+    functions = refl;
     trace = refl;
     input = refl;
   };

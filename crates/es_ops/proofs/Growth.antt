@@ -8,7 +8,7 @@ use Rattle.es_ops.specs.State.{World, State, plus, nothing, some_slots, some_uni
 use Rattle.js_value.specs.declared.counts.Full.{Full}
 use Rattle.es_ops.specs.Ledger.{Event, Happens, Stops, charged, charged_unless, passed, written, with_thing, first_cost, with_name, name_added, name_cost, growth}
 use Rattle.es_ops.specs.InternalMethods.{Method, apply_method}
-use Rattle.es_ops.specs.Events.{reply, Deed, perform, Make, Apply, Attach, SetCell, SetMark, Settle, AddReaction, Enqueue, Dequeue, AddRejection, RemoveRejection, MakeText, Write, Take, apply_outcome, settle_class, react_class, dequeue, attached}
+use Rattle.es_ops.specs.Events.{reply, Deed, perform, Make, Apply, Attach, SetCell, SetMark, Settle, TakeReaction, AddReaction, Enqueue, Dequeue, AddRejection, RemoveRejection, MakeText, Write, Take, apply_outcome, settle_class, take_reaction_class, react_class, dequeue, attached}
 use Rattle.es_ops.specs.Act.{Act, Give, Throw, Halt, Turn, Ask, Do, Call, Try, Completion, NormalCompletion, ThrowCompletion, Ran, Ends, Halts, Calls, with_world, spent, happened, returned, ended, run}
 use Rattle.es_ops.specs.Laws.{Grows, IfHappens, state_of}
 
@@ -90,7 +90,7 @@ apply_grows w n m before answer (Some after) =
     written_grows w (with_name name w) n (AnObject before) (AnObject after) (plus (growth before after) (name_cost m name)) answer (name_grows w name)
 
 settle_grows : (w : World) (n : ℕ) (state : PromiseState) (o : ObjectRecord) (c : Class) → IfHappens (settle_class w n state o c) (λ a v. Grows w v)
-settle_grows w n state o (Promise Pending reactions) = written_grows w w n (AnObject o) (AnObject (record o { class = Promise state [] })) nothing (Some reactions) (grows_refl w)
+settle_grows w n state o (Promise Pending reactions) = written_grows w w n (AnObject o) (AnObject (record o { class = Promise state reactions })) nothing (Some (length reactions)) (grows_refl w)
 settle_grows w n state o (Promise (Fulfilled v) reactions) = grows_refl w
 settle_grows w n state o (Promise (Rejected v) reactions) = grows_refl w
 settle_grows w n state o Ordinary = grows_refl w
@@ -100,6 +100,17 @@ settle_grows w n state o (BuiltInFunction row) = grows_refl w
 settle_grows w n state o (ResolveFunction p m) = grows_refl w
 settle_grows w n state o (RejectFunction p m) = grows_refl w
 settle_grows w n state o Error = grows_refl w
+
+take_grows : (w : World) (n : ℕ) (o : ObjectRecord) (c : Class) → IfHappens (take_reaction_class w n o c) (λ a v. Grows w v)
+take_grows w n o (Promise state (r ∷ rs)) = grows_same w _ (rw (length-set w.store n (AnObject (record o { class = Promise state rs }))) (le_refl (length w.store))) refl refl refl refl
+take_grows w n o (Promise state []) = grows_refl w
+take_grows w n o Ordinary = grows_refl w
+take_grows w n o (Array k b) = grows_refl w
+take_grows w n o (ScriptFunction m f g cs) = grows_refl w
+take_grows w n o (BuiltInFunction row) = grows_refl w
+take_grows w n o (ResolveFunction p m) = grows_refl w
+take_grows w n o (RejectFunction p m) = grows_refl w
+take_grows w n o Error = grows_refl w
 
 react_grows : (w : World) (n : ℕ) (r : Reaction) (o : ObjectRecord) (c : Class) → IfHappens (react_class w n r o c) (λ a v. Grows w v)
 react_grows w n r o (Promise Pending reactions) =
@@ -138,6 +149,7 @@ perform_grows (Attach f p a) w =
 perform_grows (SetCell n v) w = written_grows w w n (ACell (cell_in w.store n)) (ACell (record { value = Some v; const = (cell_in w.store n).const })) nothing tt (grows_refl w)
 perform_grows (SetMark n) w = written_grows w w n (AMark (mark_in w.store n)) (AMark true) nothing tt (grows_refl w)
 perform_grows (Settle n state) w = settle_grows w n state (object_in w.store n) (object_in w.store n).class
+perform_grows (TakeReaction n) w = take_grows w n (object_in w.store n) (object_in w.store n).class
 perform_grows (AddReaction n r) w = react_grows w n r (object_in w.store n) (object_in w.store n).class
 perform_grows (Enqueue job) w = charged_grows w (record w { jobs = w.jobs ++ job ∷ [] }) (some_slots 4) tt (grows_same w (record w { jobs = w.jobs ++ job ∷ [] }) (le_refl (length w.store)) refl refl refl refl)
 perform_grows Dequeue w = dequeue_grows w.jobs w

@@ -1,5 +1,5 @@
 -- Promise operations and jobs are the same but for the numbers of things.
-use Rattle.std.proofs.Common.{◌≡◌, ℕ, Bool, List, [], refl, Option, codes, lit≤}
+use Rattle.std.proofs.Common.{◌≡◌, ℕ, zero, suc, Bool, [], refl, Option, Some, None, codes, lit≤}
 use Rattle.js_value.specs.Value.{Value, Object}
 use Rattle.js_value.specs.Store.{length_name, Reaction, Class, Array, ResolveFunction, RejectFunction}
 use Rattle.js_value.specs.Literal.{digits_number}
@@ -8,37 +8,44 @@ use Rattle.js_value.proofs.Profile.{string_tested}
 use Rattle.es_ops.specs.Equality.{same_value}
 use Rattle.es_ops.specs.Messages.{ResolvedWithItself}
 use Rattle.js_value.specs.Job.{Job}
-use Rattle.es_ops.specs.Events.{TheObject}
 use Rattle.es_ops.specs.Act.{Act, Completion}
-use Rattle.es_ops.specs.Jobs.{enqueue_fulfil_jobs, enqueue_reject_jobs, fulfilled, fulfil_promise, rejected, reject_promise, resolve_with_then, resolve_by_value, resolve_promise, resolving_function, create_resolving_functions, first_call, call_resolve_function, call_reject_function, make_promise, handler_of, then_by_class, perform_promise_then, promise_then, settle_derived, handled, thenable_called, run_job, run_dequeued, run_first_job}
-use Rattle.es_ops.specs.Related.{Naming, BothOption, BothNone, BothSome, BothList, BothEmpty, BothCons, BothValue, BothUndefined, BothNull, BothBoolean, BothNumber, BothString, BothObject, BothData, BothPending, BothFulfilled, BothRejected, BothReaction, BothClass, BothOrdinary, BothArray, BothScript, BothBuiltIn, BothResolve, BothReject, BothError, BothPromise, BothRecord, BothAnObject, BothAMark, BothJob, BothFulfilJob, BothRejectJob, BothThenableJob, BothCompletion, BothNormal, BothThrow, Related, BothGive, BothTurn, BothAsk, BothDo, Then, IsOneToOne}
-use Rattle.es_ops.proofs.Acting.{acting}
+use Rattle.es_ops.specs.Jobs.{enqueue_fulfil_job, enqueue_reject_job, enqueue_fulfil_jobs, enqueue_reject_jobs, fulfilled, fulfil_promise, rejected, reject_promise, resolve_with_then, resolve_by_value, resolve_promise, resolving_function, create_resolving_functions, first_call, call_resolve_function, call_reject_function, make_promise, handler_of, then_by_class, perform_promise_then, promise_then, settle_derived, handled, thenable_called, run_job, run_dequeued, run_first_job}
+use Rattle.es_ops.specs.Related.{Naming, BothOption, BothNone, BothSome, BothEmpty, BothCons, BothValue, BothUndefined, BothNull, BothBoolean, BothNumber, BothString, BothObject, BothData, BothPending, BothFulfilled, BothRejected, BothReaction, BothClass, BothOrdinary, BothArray, BothScript, BothBuiltIn, BothResolve, BothReject, BothError, BothPromise, BothRecord, BothAnObject, BothAMark, BothJob, BothFulfilJob, BothRejectJob, BothThenableJob, BothCompletion, BothNormal, BothThrow, Related, BothGive, BothTurn, BothAsk, BothDo, Then, IsOneToOne}
+use Rattle.es_ops.proofs.Acting.{acting, ask_class, do_enqueue, do_take}
 use Rattle.es_ops.proofs.Parts.{cond_related}
 use Rattle.es_ops.proofs.ReadsRelated.{make_error_related, is_callable_related, get_related}
 use Rattle.es_ops.proofs.WritesRelated.{same_value_related}
 
 -- ---- settling
 
-fulfil_jobs_related : {R : Naming} {rs qs : List Reaction} {v w : Value} {k l : Act} → BothList (BothReaction R) rs qs → BothValue R v w → Related R k l → Related R (enqueue_fulfil_jobs rs v k) (enqueue_fulfil_jobs qs w l)
-fulfil_jobs_related BothEmpty b h = search (acting)
-fulfil_jobs_related (BothCons r rs) b h = BothDo (BothFulfilJob r.on_fulfilled r.derived b) (λ x y e. fulfil_jobs_related rs b h)
+fulfil_job_related : {R : Naming} {r q : Option Reaction} {v w : Value} {k l : Act} → BothOption (BothReaction R) r q → BothValue R v w → Related R k l → Related R (enqueue_fulfil_job r v k) (enqueue_fulfil_job q w l)
+fulfil_job_related BothNone b h = h
+fulfil_job_related (BothSome r) b h = do_enqueue (BothFulfilJob r.on_fulfilled r.derived b) h
 
-reject_jobs_related : {R : Naming} {rs qs : List Reaction} {v w : Value} {k l : Act} → BothList (BothReaction R) rs qs → BothValue R v w → Related R k l → Related R (enqueue_reject_jobs rs v k) (enqueue_reject_jobs qs w l)
-reject_jobs_related BothEmpty b h = search (acting)
-reject_jobs_related (BothCons r rs) b h = BothDo (BothRejectJob r.on_rejected r.derived b) (λ x y e. reject_jobs_related rs b h)
+fulfil_jobs_related : {R : Naming} (n p q : ℕ) {v w : Value} {k l : Act} → R p q → BothValue R v w → Related R k l → Related R (enqueue_fulfil_jobs n p v k) (enqueue_fulfil_jobs n q w l)
+fulfil_jobs_related zero p q r b h = h
+fulfil_jobs_related (suc n) p q r b h = do_take r (λ x y e. fulfil_job_related e b (fulfil_jobs_related n p q r b h))
 
-pub fulfilled_related : {R : Naming} {rs qs : Option (List Reaction)} {v w : Value} {k l : Act} → BothOption (BothList (BothReaction R)) rs qs → BothValue R v w → Related R k l → Related R (fulfilled rs v k) (fulfilled qs w l)
-fulfilled_related BothNone b h = search (acting)
-fulfilled_related (BothSome rs) b h = search (acting, fulfil_jobs_related)
+reject_job_related : {R : Naming} {r q : Option Reaction} {v w : Value} {k l : Act} → BothOption (BothReaction R) r q → BothValue R v w → Related R k l → Related R (enqueue_reject_job r v k) (enqueue_reject_job q w l)
+reject_job_related BothNone b h = h
+reject_job_related (BothSome r) b h = do_enqueue (BothRejectJob r.on_rejected r.derived b) h
+
+reject_jobs_related : {R : Naming} (n p q : ℕ) {v w : Value} {k l : Act} → R p q → BothValue R v w → Related R k l → Related R (enqueue_reject_jobs n p v k) (enqueue_reject_jobs n q w l)
+reject_jobs_related zero p q r b h = h
+reject_jobs_related (suc n) p q r b h = do_take r (λ x y e. reject_job_related e b (reject_jobs_related n p q r b h))
+
+pub fulfilled_related : {R : Naming} (p q : ℕ) (n : Option ℕ) {v w : Value} {k l : Act} → R p q → BothValue R v w → Related R k l → Related R (fulfilled p n v k) (fulfilled q n w l)
+fulfilled_related p q None r b h = h
+fulfilled_related p q (Some n) r b h = fulfil_jobs_related n p q r b h
 
 pub fulfil_related : {R : Naming} (p q : ℕ) (v w : Value) (k l : Act) → R p q → BothValue R v w → Related R k l → Related R (fulfil_promise p v k) (fulfil_promise q w l)
 unfolding fulfil_promise
 fulfil_related p q v w k l r b h = search (acting, fulfilled_related)
 
-rejected_related : {R : Naming} (p q : ℕ) {rs qs : Option (List Reaction)} {v w : Value} {k l : Act} → R p q → BothOption (BothList (BothReaction R)) rs qs → BothValue R v w → Related R k l → Related R (rejected p rs v k) (rejected q qs w l)
-rejected_related p q r BothNone b h = search (acting)
-rejected_related p q r (BothSome BothEmpty) b h = search (acting)
-rejected_related p q r (BothSome (BothCons s rs)) b h = search (acting, reject_jobs_related)
+rejected_related : {R : Naming} (p q : ℕ) (n : Option ℕ) {v w : Value} {k l : Act} → R p q → BothValue R v w → Related R k l → Related R (rejected p n v k) (rejected q n w l)
+rejected_related p q None r b h = h
+rejected_related p q (Some zero) r b h = search (acting)
+rejected_related p q (Some (suc n)) r b h = reject_jobs_related (suc n) p q r b h
 
 pub reject_related : {R : Naming} (p q : ℕ) (v w : Value) (k l : Act) → R p q → BothValue R v w → Related R k l → Related R (reject_promise p v k) (reject_promise q w l)
 unfolding reject_promise
@@ -75,7 +82,7 @@ function_both c r = record { class = c; prototype = BothSome r; extensible = ref
 pub create_functions_related : {R : Naming} (p q : ℕ) (k l : (mark resolve reject : ℕ) → Act) → R p q → ((a b c x y z : ℕ) → R a x → R b y → R c z → Related R (k a b c) (l x y z)) → Related R (create_resolving_functions p k) (create_resolving_functions q l)
 unfolding create_resolving_functions
 create_functions_related p q k l r h =
-    BothDo (BothAMark, tt) (λ a x e. BothAsk (refl, lit≤ tt) (λ i j s.
+    BothDo (BothAMark, tt) (λ a x e. BothAsk refl (λ i j s.
     BothDo (BothAnObject (function_both (BothResolve r e) s), function_orderly (ResolveFunction p a) i (λ n w x. cc)) (λ b y f.
     BothDo (BothAnObject (function_both (BothReject r e) s), function_orderly (RejectFunction p a) i (λ n w x. cc)) (λ c z g. h a b c x y z e f g))))
 
@@ -94,7 +101,7 @@ call_reject_related p q m n v w r s b = search (acting, first_call_related, reje
 
 pub make_promise_related : {R : Naming} (k l : ℕ → Act) → Then R R k l → Related R (make_promise k) (make_promise l)
 unfolding make_promise
-make_promise_related k l h = BothAsk (refl, lit≤ tt) (λ p q r. BothDo (BothAnObject (record { class = BothPromise BothPending BothEmpty; prototype = BothSome r; extensible = refl; indexed = BothEmpty; named = BothEmpty }), record { indices = tt; range = tt; length = tt; names = tt; distinct = tt; no_length = tt }) h)
+make_promise_related k l h = BothAsk refl (λ p q r. BothDo (BothAnObject (record { class = BothPromise BothPending BothEmpty; prototype = BothSome r; extensible = refl; indexed = BothEmpty; named = BothEmpty }), record { indices = tt; range = tt; length = tt; names = tt; distinct = tt; no_length = tt }) h)
 
 handler_related : {R : Naming} {v w : Value} (k l : Value → Act) → BothValue R v w → Then R (BothValue R) k l → Related R (handler_of v k) (handler_of w l)
 handler_related k l b h = search (acting, is_callable_related)
@@ -113,7 +120,7 @@ by_class_related p q i BothError f r m h = search (acting)
 
 pub perform_then_related : {R : Naming} (p q : ℕ) (f g r s : Value) (m n : ℕ) (k l : Act) → R p q → BothValue R f g → BothValue R r s → R m n → Related R k l → Related R (perform_promise_then p f r m k) (perform_promise_then q g s n l)
 unfolding perform_promise_then
-perform_then_related p q f g r s m n k l i a b d h = handler_related _ _ a (λ x y e. handler_related _ _ b (λ z w u. BothAsk {q = TheObject p} {p = TheObject q} i (λ c o t. by_class_related _ _ i t.class e u d h)))
+perform_then_related p q f g r s m n k l i a b d h = handler_related _ _ a (λ x y e. handler_related _ _ b (λ z w u. ask_class i (λ c o t. by_class_related _ _ i t e u d h)))
 
 pub promise_then_related : {R : Naming} (p q : ℕ) (f g r s : Value) (k l : ℕ → Act) → R p q → BothValue R f g → BothValue R r s → Then R R k l → Related R (promise_then p f r k) (promise_then q g s l)
 unfolding promise_then

@@ -8,6 +8,7 @@ mod ConversionRows
 mod DescriptorRows
 pub mod FrozenThings
 pub mod Growth
+pub mod OwnKeys
 mod LedgerRows
 pub mod Others
 pub mod Orderly

@@ -6,9 +6,9 @@ use Rattle.js_value.specs.Job.{Job}
 use Rattle.es_ops.specs.State.{ModuleState}
 use Rattle.es_ops.specs.InternalMethods.{SetStep}
 use Rattle.es_ops.specs.Act.{Completion}
-use Rattle.es_ops.specs.Events.{Question, Reply, TheObject, TheCell, TheMark, TheProperty, TheSetStep, TheIntrinsic, TheInput, Deed, Answer, Make, Apply, Settle, Dequeue}
+use Rattle.es_ops.specs.Events.{Question, Reply, TheClass, ThePrototype, IsExtensible, TheOwnProperty, TheOwnKey, IsOnChain, TheSort, TheCell, TheMark, TheProperty, TheSetStep, TheIntrinsic, TheInput, Deed, Answer, Make, Apply, Settle, TakeReaction, Dequeue}
 use Rattle.es_ops.specs.Related.{Naming, BothOption, BothNone, BothSome, BothList, BothEmpty, BothCons, BothValue, BothUndefined, BothNull, BothBoolean, BothNumber, BothString, BothObject, BothContent, BothData, BothAccessor, BothProperty, BothEntry, BothState, BothPending, BothFulfilled, BothRejected, BothReaction, BothClass, BothOrdinary, BothArray, BothScript, BothBuiltIn, BothResolve, BothReject, BothError, BothPromise, BothThing, BothAnObject, BothACell, BothAMark, BothJob, BothFulfilJob, BothRejectJob, BothThenableJob, BothSetStep, BothRefuses, BothCalls, BothDefines, BothReply, BothAnswer, BothCompletion, BothNormal, BothThrow}
-use Rattle.es_ops.specs.Renaming.{BothModule}
+use Rattle.es_ops.specs.Renaming.{BothModule, BothNotEvaluated, BothSetUp, BothEvaluated, BothPreloaded}
 
 pub option_more : {A : Type 0} (B C : A → A → Type 0) → ((x y : A) → B x y → C x y) → {x y : Option A} → BothOption B x y → BothOption C x y
 option_more B C up BothNone = BothNone
@@ -66,7 +66,10 @@ module _ (R S : Naming) (up : (m n : ℕ) → R m n → S m n) where
   job_more i j (BothThenableJob p t f) = BothThenableJob (up _ _ p) (value_more _ _ t) (value_more _ _ f)
 
   pub module_more : (m n : ModuleState) → BothModule R m n → BothModule S m n
-  module_more m n h = record { status = h.status; cells = list_more R S up h.cells }
+  module_more m n BothNotEvaluated = BothNotEvaluated
+  module_more m n (BothSetUp h) = BothSetUp (list_more R S up h)
+  module_more m n (BothEvaluated h) = BothEvaluated (list_more R S up h)
+  module_more m n (BothPreloaded h) = BothPreloaded (list_more R S up h)
 
   step_more : (s t : SetStep) → BothSetStep R s t → BothSetStep S s t
   step_more s t BothRefuses = BothRefuses
@@ -74,19 +77,26 @@ module _ (R S : Naming) (up : (m n : ℕ) → R m n → S m n) where
   step_more s t (BothDefines r d) = BothDefines (up _ _ r) (record { value = option_more (BothValue R) (BothValue S) value_more d.value; writable = d.writable; get = option_more (BothValue R) (BothValue S) value_more d.get; set = option_more (BothValue R) (BothValue S) value_more d.set; enumerable = d.enumerable; configurable = d.configurable })
 
   pub reply_more : (q p : Question) (r : Reply q) (s : Reply p) → BothReply R q p r s → BothReply S q p r s
-  reply_more (TheObject m) (TheObject n) o p h = record { class = class_more _ _ h.class; prototype = option_more R S up h.prototype; extensible = h.extensible; indexed = list_more (BothEntry R) (BothEntry S) entry_more h.indexed; named = list_more (BothEntry R) (BothEntry S) entry_more h.named }
+  reply_more (TheClass m) (TheClass n) c d h = class_more _ _ h
+  reply_more (ThePrototype m) (ThePrototype n) p q h = option_more R S up h
+  reply_more (IsExtensible m) (IsExtensible n) a b h = h
+  reply_more (TheOwnProperty key m) (TheOwnProperty other n) p q h = option_more (BothProperty R) (BothProperty S) property_more h
+  reply_more (TheOwnKey at m) (TheOwnKey place n) i j h = h
+  reply_more (IsOnChain p m) (IsOnChain q n) a b h = h
   reply_more (TheCell m) (TheCell n) c d h = record { value = option_more (BothValue R) (BothValue S) value_more h.value; const = h.const }
   reply_more (TheMark m) (TheMark n) b c h = h
   reply_more (TheProperty key m) (TheProperty other n) p q h = option_more (BothProperty R) (BothProperty S) property_more h
   reply_more (TheSetStep key v t p) (TheSetStep other w u q) r s h = step_more _ _ h
-  reply_more (TheIntrinsic at) (TheIntrinsic place) m n h = up _ _ h
+  reply_more (TheIntrinsic i) (TheIntrinsic j) m n h = up _ _ h
+  reply_more (TheSort x f) (TheSort y g) a b h = h
   reply_more TheInput TheInput i j h = h
   reply_more _ _ r s h = absurd h
 
   pub answer_more : (d e : Deed) (a : Answer d) (b : Answer e) → BothAnswer R d e a b → BothAnswer S d e a b
   answer_more (Make t) (Make u) m n h = up _ _ h
   answer_more (Apply m f) (Apply n g) a b h = h
-  answer_more (Settle m s) (Settle n t) a b h = option_more (BothList (BothReaction R)) (BothList (BothReaction S)) (λ x y. list_more (BothReaction R) (BothReaction S) reaction_more) h
+  answer_more (Settle m s) (Settle n t) a b h = h
+  answer_more (TakeReaction m) (TakeReaction n) a b h = option_more (BothReaction R) (BothReaction S) reaction_more h
   answer_more Dequeue Dequeue i j h = option_more (BothJob R) (BothJob S) job_more h
   answer_more _ _ a b h = tt
 

@@ -8,7 +8,7 @@ use Rattle.es_ops.specs.State.{World, plus, nothing, some_slots, some_units}
 use Rattle.js_value.specs.declared.counts.Full.{Full}
 use Rattle.es_ops.specs.Ledger.{Event, Happens, charged, charged_unless, passed, written, with_thing, first_cost, with_name, name_added, name_cost, growth}
 use Rattle.es_ops.specs.InternalMethods.{Method, apply_method}
-use Rattle.es_ops.specs.Events.{Deed, perform, Make, Apply, Attach, SetCell, SetMark, Settle, AddReaction, Enqueue, Dequeue, AddRejection, RemoveRejection, MakeText, Write, Take, apply_outcome, settle_class, react_class, dequeue, attached}
+use Rattle.es_ops.specs.Events.{Deed, perform, Make, Apply, Attach, SetCell, SetMark, Settle, TakeReaction, AddReaction, Enqueue, Dequeue, AddRejection, RemoveRejection, MakeText, Write, Take, apply_outcome, settle_class, take_reaction_class, react_class, dequeue, attached}
 use Rattle.es_ops.specs.Laws.{IfHappens, changes}
 
 pub get-set_other : {X : Type 0} (xs : List X) (i j : ℕ) (x : X) → i ≢ j → slice_get (set xs i x) j ≡ slice_get xs j
@@ -60,7 +60,7 @@ module _ (k : ℕ) (x : Option Thing) where
 
   settle_stays : (w : World) (n : ℕ) (state : PromiseState) (o : ObjectRecord) (c : Class) → (n == k) ≡ false → slice_get w.store k ≡ x → Stays (settle_class w n state o c)
   unfolding Stays
-  settle_stays w n state o (Promise Pending reactions) d e = written_stays w n (AnObject o) (AnObject (record o { class = Promise state [] })) nothing (Some reactions) d e
+  settle_stays w n state o (Promise Pending reactions) d e = written_stays w n (AnObject o) (AnObject (record o { class = Promise state reactions })) nothing (Some (length reactions)) d e
   settle_stays w n state o (Promise (Fulfilled v) reactions) d e = e
   settle_stays w n state o (Promise (Rejected v) reactions) d e = e
   settle_stays w n state o Ordinary d e = e
@@ -70,6 +70,18 @@ module _ (k : ℕ) (x : Option Thing) where
   settle_stays w n state o (ResolveFunction p m) d e = e
   settle_stays w n state o (RejectFunction p m) d e = e
   settle_stays w n state o Error d e = e
+
+  take_stays : (w : World) (n : ℕ) (o : ObjectRecord) (c : Class) → (n == k) ≡ false → slice_get w.store k ≡ x → Stays (take_reaction_class w n o c)
+  unfolding Stays
+  take_stays w n o (Promise state (r ∷ rs)) d e = get-set_other w.store n k _ (different n k d) ∙ e
+  take_stays w n o (Promise state []) d e = e
+  take_stays w n o Ordinary d e = e
+  take_stays w n o (Array l b) d e = e
+  take_stays w n o (ScriptFunction m f g cs) d e = e
+  take_stays w n o (BuiltInFunction row) d e = e
+  take_stays w n o (ResolveFunction p m) d e = e
+  take_stays w n o (RejectFunction p m) d e = e
+  take_stays w n o Error d e = e
 
   react_stays : (w : World) (n : ℕ) (r : Reaction) (o : ObjectRecord) (c : Class) → (n == k) ≡ false → slice_get w.store k ≡ x → Stays (react_class w n r o c)
   unfolding Stays
@@ -107,6 +119,7 @@ others_stay (Attach f p a) w k l e = attached_stays k (slice_get w.store k) p a 
 others_stay (SetCell n v) w k l e = written_stays k (slice_get w.store k) w n (ACell (cell_in w.store n)) (ACell (record { value = Some v; const = (cell_in w.store n).const })) nothing tt e refl
 others_stay (SetMark n) w k l e = written_stays k (slice_get w.store k) w n (AMark (mark_in w.store n)) (AMark true) nothing tt e refl
 others_stay (Settle n state) w k l e = settle_stays k (slice_get w.store k) w n state (object_in w.store n) (object_in w.store n).class e refl
+others_stay (TakeReaction n) w k l e = take_stays k (slice_get w.store k) w n (object_in w.store n) (object_in w.store n).class e refl
 others_stay (AddReaction n r) w k l e = react_stays k (slice_get w.store k) w n r (object_in w.store n) (object_in w.store n).class e refl
 others_stay (Enqueue job) w k l e = charged_stays k (slice_get w.store k) (some_slots 4) tt (record w { jobs = w.jobs ++ job ∷ [] }) refl
 others_stay Dequeue w k l e = dequeue_stays k (slice_get w.store k) w.jobs w refl

@@ -8,13 +8,14 @@ use Rattle.js_value.specs.Order.{IsString, IsKey, IsOrderly}
 use Rattle.js_value.specs.Literal.{digits_number}
 use Rattle.js_value.proofs.Keys.{key_of_text_is_key, key_of_number_is_key}
 use Rattle.js_value.proofs.Profile.{is_string, string_tested, text_of_number_is_string, number_of_text_is_number, unit_of_text}
-use Rattle.es_ops.specs.Messages.{Message, NumberOutOfRange, StringTooLong, InvalidArrayLength, InvalidArgument, NotDefined, NotInitialised, EmptyArray, SuperCalledTwice, AssignmentToConstant, NotAFunction, NotAConstructor, CalledWithoutNew, NoProperties, NotWritable, NotDefinable, NotDeletable, NotAnObject, NoPrimitiveValue, PrimitiveExpected, AccessorOnIndex, PrototypeNotSettable, ResolvedWithItself, WrongReceiver, ReturnedPrimitive, text_of_message, kind_of_message, ErrorKind, RangeError, ReferenceError, TypeError}
+use Rattle.es_ops.specs.Messages.{Message, NumberOutOfRange, StringTooLong, InvalidArrayLength, InvalidArgument, NotDefined, NotInitialised, EmptyArray, SuperCalledTwice, AssignmentToConstant, NotAFunction, NotAConstructor, CalledWithoutNew, NoProperties, NotWritable, NotDefinable, NotDeletable, NotAnObject, NoPrimitiveValue, PrimitiveExpected, AccessorOnIndex, PrototypeNotSettable, ResolvedWithItself, WrongReceiver, ReturnedPrimitive, text_of_message}
+use Rattle.es_ops.specs.Intrinsics.{Intrinsic, StringPrototype, NumberPrototype, BooleanPrototype}
 use Rattle.es_ops.specs.Act.{Act}
-use Rattle.es_ops.specs.Errors.{make_error, raise, make_text, error_prototype, message_name, error_record}
+use Rattle.es_ops.specs.Errors.{make_error, raise, make_text, message_name, error_record}
 use Rattle.es_ops.specs.PropertyReads.{is_callable, call_getter, content_value, property_value, get, has_property, inherited, StringProperty, AUnit, Length, Inherits, string_unit, string_property, string_value, get_v}
 use Rattle.es_ops.specs.Conversions.{Hint, DefaultHint, NumberHint, StringHint, primitive_by, to_primitive, number_of_primitive, number_or_raise, to_number, text_of_primitive, to_string, key_of_primitive, to_property_key, primitive_expected, number_expected, text_expected, key_expected}
-use Rattle.es_ops.specs.Related.{Naming, BothOption, BothNone, BothSome, BothEmpty, BothCons, BothValue, BothUndefined, BothNull, BothBoolean, BothNumber, BothString, BothObject, BothContent, BothData, BothAccessor, BothProperty, BothClass, BothOrdinary, BothArray, BothScript, BothBuiltIn, BothResolve, BothReject, BothError, BothPromise, BothAnObject, Related, BothAsk, BothDo, BothCall, Then, ThenSame, intrinsics}
-use Rattle.es_ops.proofs.Acting.{acting}
+use Rattle.es_ops.specs.Related.{Naming, BothOption, BothNone, BothSome, BothEmpty, BothCons, BothValue, BothUndefined, BothNull, BothBoolean, BothNumber, BothString, BothObject, BothContent, BothData, BothAccessor, BothProperty, BothClass, BothOrdinary, BothArray, BothScript, BothBuiltIn, BothResolve, BothReject, BothError, BothPromise, BothAnObject, Related, BothAsk, BothDo, BothCall, Then, ThenSame}
+use Rattle.es_ops.proofs.Acting.{acting, ask_class}
 use Rattle.es_ops.proofs.Parts.{cond_related}
 
 callable_same : {R : Naming} {c d : Class} → BothClass R c d → callable_class c ≡ callable_class d
@@ -29,7 +30,7 @@ callable_same (BothPromise s rs) = refl
 
 pub is_callable_related : {R : Naming} {v w : Value} (k l : Bool → Act) → BothValue R v w → ((b : Bool) → Related R (k b) (l b)) → Related R (is_callable v k) (is_callable w l)
 unfolding is_callable
-is_callable_related k l (BothObject n) h = BothAsk n (λ o p e. rw (callable_same e.class) (h (callable_class p.class)))
+is_callable_related k l (BothObject n) h = ask_class n (λ c d e. rw (callable_same e) (h (callable_class d)))
 is_callable_related k l BothUndefined h = search (acting)
 is_callable_related k l BothNull h = search (acting)
 is_callable_related k l BothBoolean h = search (acting)
@@ -100,14 +101,9 @@ message_is_string e = string_tested (text_of_message e) (tested e)
     tested WrongReceiver = refl
     tested ReturnedPrimitive = refl
 
-error_place : (k : ErrorKind) → error_prototype k < intrinsics
-error_place RangeError = lit≤ tt
-error_place ReferenceError = lit≤ tt
-error_place TypeError = lit≤ tt
-
 pub make_error_related : {R : Naming} (e : Message) (k l : ℕ → Act) → Then R R k l → Related R (make_error e k) (make_error e l)
 unfolding make_error
-make_error_related e k l h = BothAsk (refl, error_place (kind_of_message e)) (λ p q r. BothDo (BothAnObject (record { class = BothError; prototype = BothSome r; extensible = refl; indexed = BothEmpty; named = BothCons (record { key = refl; property = record { content = BothData (BothString (message_is_string e)); enumerable = refl; configurable = refl } }) BothEmpty }), error_orderly p (text_of_message e)) h)
+make_error_related e k l h = BothAsk refl (λ p q r. BothDo (BothAnObject (record { class = BothError; prototype = BothSome r; extensible = refl; indexed = BothEmpty; named = BothCons (record { key = refl; property = record { content = BothData (BothString (message_is_string e)); enumerable = refl; configurable = refl } }) BothEmpty }), error_orderly p (text_of_message e)) h)
 
 pub raise_related : {R : Naming} (e : Message) → Related R (raise e) (raise e)
 unfolding raise
@@ -119,8 +115,8 @@ make_text_related t k l x h = search (acting, raise_related, refl, BothString)
 
 -- ---- GetV
 
-inherited_related : {R : Naming} (place : ℕ) → place < intrinsics → {t u : Value} (key : Key) (k l : Value → Act) → BothValue R t u → Then R (BothValue R) k l → Related R (inherited place t key k) (inherited place u key l)
-inherited_related place c key k l r h = search (acting, property_value_related, refl)
+inherited_related : {R : Naming} (i : Intrinsic) {t u : Value} (key : Key) (k l : Value → Act) → BothValue R t u → Then R (BothValue R) k l → Related R (inherited i t key k) (inherited i u key l)
+inherited_related i key k l r h = search (acting, property_value_related, refl)
 
 -- a unit that is read from a text has 16 bits
 IsUnit : StringProperty → Type 0
@@ -149,14 +145,14 @@ string_value_related : {R : Naming} (t : Text) (p : StringProperty) (key : Key) 
 unfolding IsUnit
 string_value_related t (AUnit u) key k l x i h = make_text_related (u ∷ []) k l (record { units = (i, tt); bound = lit≤ tt }) h
 string_value_related t Length key k l x i h = search (acting, BothNumber)
-string_value_related t Inherits key k l x i h = inherited_related 11 (lit≤ tt) key k l (BothString x) h
+string_value_related t Inherits key k l x i h = inherited_related StringPrototype key k l (BothString x) h
 
 pub get_v_related : {R : Naming} (v w : Value) (key : Key) (k l : Value → Act) → BothValue R v w → Then R (BothValue R) k l → Related R (get_v v key k) (get_v w key l)
 unfolding get_v
 get_v_related v w key k l (BothObject {m = m} {n = n} r) h = search (acting, get_related)
 get_v_related v w key k l (BothString {t = t} x) h = string_value_related t (string_property t key) key k l x (property_is_unit t key x) h
-get_v_related v w key k l (BothNumber x) h = inherited_related 8 (lit≤ tt) key k l (BothNumber x) h
-get_v_related v w key k l BothBoolean h = inherited_related 7 (lit≤ tt) key k l BothBoolean h
+get_v_related v w key k l (BothNumber x) h = inherited_related NumberPrototype key k l (BothNumber x) h
+get_v_related v w key k l BothBoolean h = inherited_related BooleanPrototype key k l BothBoolean h
 get_v_related v w key k l BothUndefined h = search (acting, raise_related)
 get_v_related v w key k l BothNull h = search (acting, raise_related)
 

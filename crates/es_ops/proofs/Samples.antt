@@ -59,6 +59,7 @@ world_with room things first_costs = record {
   jobs = [];
   rejections = [];
   modules = [];
+  functions = [];
   trace = [];
   input = None;
 }

@@ -6,7 +6,7 @@ use Rattle.js_value.specs.WellFormed.{IsValueBelow, IfValueBelow, IfNumberBelow,
 use Rattle.js_value.specs.Job.{Job, FulfilJob, RejectJob, ThenableJob}
 use Rattle.es_ops.specs.State.{State}
 use Rattle.es_ops.specs.InternalMethods.{PropertyDescriptor, Method, DefineOwnProperty, Delete, PreventExtensions, SetPrototypeOf, Freeze, SetStep, RefusesSet, CallsSetter, DefinesOn}
-use Rattle.es_ops.specs.Events.{Question, Reply, TheObject, TheCell, TheMark, TheProperty, TheSetStep, TheIntrinsic, TheInput, Deed, Answer, Make, Apply, Attach, SetCell, SetMark, Settle, AddReaction, Enqueue, Dequeue, AddRejection, RemoveRejection, MakeText, Write, Take}
+use Rattle.es_ops.specs.Events.{Question, Reply, TheClass, ThePrototype, IsExtensible, TheOwnProperty, TheOwnKey, IsOnChain, TheSort, TheCell, TheMark, TheProperty, TheSetStep, TheIntrinsic, TheInput, Deed, Answer, Make, Apply, Attach, SetCell, SetMark, Settle, TakeReaction, AddReaction, Enqueue, Dequeue, AddRejection, RemoveRejection, MakeText, Write, Take}
 use Rattle.es_ops.specs.Act.{Act, Give, Throw, Halt, Turn, Ask, Do, Call, Try, Calls, run, Completion, NormalCompletion, ThrowCompletion}
 use Rattle.es_ops.specs.Laws.{IsDescriptorBelow, IsMethodBelow, IsJobBelow, IsDeedBelow, IsStepBelow, IsReplyBelow, IsQuestionBelow, IsAnswerBelow, IsCompletionBelow, IsActBelow, IsWorldWellFormed, IsRanWellFormed, CallsWell}
 use Rattle.es_ops.proofs.WellFormedRuns.{run_well}
@@ -98,11 +98,17 @@ module _ (R : Naming) (m : ℕ) (left : (a b : ℕ) → R a b → a < m) where
 
   question_left : (q p : Question) → BothQuestion R q p → IsQuestionBelow m q
   question_left (TheSetStep key v receiver p) (TheSetStep other w taker q) h = (value_left _ _ h.1, value_left _ _ h.2, if_property_left _ _ h.3)
-  question_left (TheObject n) (TheObject k) h = tt
+  question_left (TheClass n) (TheClass k) h = tt
+  question_left (ThePrototype n) (ThePrototype k) h = tt
+  question_left (IsExtensible n) (IsExtensible k) h = tt
+  question_left (TheOwnProperty key n) (TheOwnProperty other k) h = tt
+  question_left (TheOwnKey at n) (TheOwnKey place k) h = tt
+  question_left (IsOnChain p n) (IsOnChain q k) h = tt
   question_left (TheCell n) (TheCell k) h = tt
   question_left (TheMark n) (TheMark k) h = tt
   question_left (TheProperty key n) (TheProperty other k) h = tt
-  question_left (TheIntrinsic at) (TheIntrinsic place) h = tt
+  question_left (TheIntrinsic i) (TheIntrinsic j) h = tt
+  question_left (TheSort x f) (TheSort y g) h = tt
   question_left TheInput TheInput h = tt
   question_left _ _ h = absurd h
 
@@ -113,6 +119,7 @@ module _ (R : Naming) (m : ℕ) (left : (a b : ℕ) → R a b → a < m) where
   deed_left (SetCell n v) (SetCell k w) h = value_left _ _ h.1
   deed_left (SetMark n) (SetMark k) h = tt
   deed_left (Settle n s) (Settle k t) h = state_left _ _ h.1
+  deed_left (TakeReaction n) (TakeReaction k) h = tt
   deed_left (AddReaction n r) (AddReaction k s) h = reaction_left _ _ h.1
   deed_left (Enqueue j) (Enqueue i) h = job_left _ _ h
   deed_left Dequeue Dequeue h = tt
@@ -165,9 +172,12 @@ module _ (n m : ℕ) (le : n ≤ m) where
   state_both (Fulfilled v) h = BothFulfilled (value_both v h)
   state_both (Rejected v) h = BothRejected (value_both v h)
 
+  reaction_both : (r : Reaction) → IsReactionBelow n r → BothReaction (Below m) r r
+  reaction_both r h = record { derived = thing_both r.derived h.derived; on_fulfilled = value_both r.on_fulfilled h.on_fulfilled; on_rejected = value_both r.on_rejected h.on_rejected }
+
   reactions_both : (rs : List Reaction) → AreReactionsBelow n rs → BothList (BothReaction (Below m)) rs rs
   reactions_both [] h = BothEmpty
-  reactions_both (r ∷ rs) h = BothCons (record { derived = thing_both r.derived h.0.derived; on_fulfilled = value_both r.on_fulfilled h.0.on_fulfilled; on_rejected = value_both r.on_rejected h.0.on_rejected }) (reactions_both rs h.1)
+  reactions_both (r ∷ rs) h = BothCons (reaction_both r h.0) (reactions_both rs h.1)
 
   class_both : (c : Class) → IsClassBelow n c → BothClass (Below m) c c
   class_both Ordinary h = BothOrdinary
@@ -196,20 +206,28 @@ module _ (n m : ℕ) (le : n ≤ m) where
   step_both (DefinesOn k d) h = BothDefines (thing_both k h.0) (record { value = if_value_both d.value h.1.value; writable = refl; get = if_value_both d.get h.1.get; set = if_value_both d.set h.1.set; enumerable = refl; configurable = refl })
 
   reply_both : (q : Question) (r : Reply q) → IsReplyBelow n q r → BothReply (Below m) q q r r
-  reply_both (TheObject k) o h = record_both o h.0
+  reply_both (TheClass k) c h = class_both c h
+  reply_both (ThePrototype k) p h = if_number_both p h
+  reply_both (IsExtensible k) b h = refl
+  reply_both (TheOwnProperty key k) None h = BothNone
+  reply_both (TheOwnProperty key k) (Some p) h = BothSome (property_both p h)
+  reply_both (TheOwnKey place k) key h = (refl, h)
+  reply_both (IsOnChain p k) b h = refl
   reply_both (TheCell k) c h = record { value = if_value_both c.value h; const = refl }
   reply_both (TheMark k) b h = refl
   reply_both (TheProperty key k) None h = BothNone
   reply_both (TheProperty key k) (Some p) h = BothSome (property_both p h)
   reply_both (TheSetStep key v receiver p) s h = step_both s h
-  reply_both (TheIntrinsic at) k h = thing_both k h
+  reply_both (TheIntrinsic i) k h = thing_both k h
+  reply_both (TheSort x f) sort h = refl
   reply_both TheInput i h = refl
 
   answer_both : (d : Deed) (a : Answer d) → IsAnswerBelow n d a → BothAnswer (Below m) d d a a
   answer_both (Make t) k h = thing_both k h
   answer_both (Apply k f) b h = refl
-  answer_both (Settle k s) None h = BothNone
-  answer_both (Settle k s) (Some rs) h = BothSome (reactions_both rs h)
+  answer_both (Settle k s) n h = refl
+  answer_both (TakeReaction k) None h = BothNone
+  answer_both (TakeReaction k) (Some r) h = BothSome (reaction_both r h)
   answer_both Dequeue None h = BothNone
   answer_both Dequeue (Some j) h = BothSome (job_both j h)
   answer_both (Attach f p b) a h = tt

@@ -8,7 +8,7 @@ use Rattle.es_ops.specs.State.{World, State, Ledger, plus, nothing, some_slots, 
 use Rattle.js_value.specs.declared.counts.Full.{Full}
 use Rattle.es_ops.specs.Ledger.{Event, Happens, Stops, Stop, OutOf, Budget, Depth, NoHost, charged, charged_unless, passed, written, with_thing, first_cost, with_name, name_added, name_cost, growth, created, new_name}
 use Rattle.es_ops.specs.InternalMethods.{Method, DefineOwnProperty, Delete, PreventExtensions, SetPrototypeOf, Freeze, apply_method}
-use Rattle.es_ops.specs.Events.{Question, reply, TheObject, TheCell, TheMark, TheProperty, TheSetStep, TheIntrinsic, TheInput, Deed, perform, Make, Apply, Attach, SetCell, SetMark, Settle, AddReaction, Enqueue, Dequeue, AddRejection, RemoveRejection, MakeText, Write, Take, apply_outcome, settle_class, react_class, dequeue}
+use Rattle.es_ops.specs.Events.{Question, reply, TheClass, ThePrototype, IsExtensible, TheOwnProperty, TheOwnKey, IsOnChain, TheSort, TheCell, TheMark, TheProperty, TheSetStep, TheIntrinsic, TheInput, Deed, perform, Make, Apply, Attach, SetCell, SetMark, Settle, TakeReaction, AddReaction, Enqueue, Dequeue, AddRejection, RemoveRejection, MakeText, Write, Take, apply_outcome, settle_class, take_reaction_class, react_class, dequeue}
 use Rattle.es_ops.specs.Act.{Act, Give, Throw, Halt, Turn, Ask, Do, Call, Try, Completion, NormalCompletion, ThrowCompletion, Ran, Ends, Halts, Calls, with_world, spent, happened, returned, ended, run}
 use Rattle.es_ops.specs.Laws.{IsAlike, IsAlikeState, EndAlikeUnlessFull}
 
@@ -64,7 +64,7 @@ apply_alike w l n m before answer (Some after) =
     (written_alike (with_name name w) l n (AnObject before) (AnObject after) price price answer))
 
 settle_alike : (w : World) (l : Ledger) (n : ℕ) (state : PromiseState) (o : ObjectRecord) (c : Class) → EventsAlike (settle_class w n state o c) (settle_class (under w l) n state o c)
-settle_alike w l n state o (Promise Pending reactions) = written_alike w l n (AnObject o) (AnObject (record o { class = Promise state [] })) nothing nothing (Some reactions)
+settle_alike w l n state o (Promise Pending reactions) = written_alike w l n (AnObject o) (AnObject (record o { class = Promise state reactions })) nothing nothing (Some (length reactions))
 settle_alike w l n state o (Promise (Fulfilled v) reactions) = (refl, refl)
 settle_alike w l n state o (Promise (Rejected v) reactions) = (refl, refl)
 settle_alike w l n state o Ordinary = (refl, refl)
@@ -74,6 +74,17 @@ settle_alike w l n state o (BuiltInFunction row) = (refl, refl)
 settle_alike w l n state o (ResolveFunction p m) = (refl, refl)
 settle_alike w l n state o (RejectFunction p m) = (refl, refl)
 settle_alike w l n state o Error = (refl, refl)
+
+take_alike : (w : World) (l : Ledger) (n : ℕ) (o : ObjectRecord) (c : Class) → EventsAlike (take_reaction_class w n o c) (take_reaction_class (under w l) n o c)
+take_alike w l n o (Promise state (r ∷ rs)) = (refl, refl)
+take_alike w l n o (Promise state []) = (refl, refl)
+take_alike w l n o Ordinary = (refl, refl)
+take_alike w l n o (Array k b) = (refl, refl)
+take_alike w l n o (ScriptFunction m f g cs) = (refl, refl)
+take_alike w l n o (BuiltInFunction row) = (refl, refl)
+take_alike w l n o (ResolveFunction p m) = (refl, refl)
+take_alike w l n o (RejectFunction p m) = (refl, refl)
+take_alike w l n o Error = (refl, refl)
 
 react_alike : (w : World) (l : Ledger) (n : ℕ) (r : Reaction) (o : ObjectRecord) (c : Class) → EventsAlike (react_class w n r o c) (react_class (under w l) n r o c)
 react_alike w l n r o (Promise Pending reactions) =
@@ -103,6 +114,7 @@ perform_alike (Attach f p a) w l = (refl, refl)
 perform_alike (SetCell n v) w l = written_alike w l n (ACell (cell_in w.store n)) (ACell (record { value = Some v; const = (cell_in w.store n).const })) nothing nothing tt
 perform_alike (SetMark n) w l = written_alike w l n (AMark (mark_in w.store n)) (AMark true) nothing nothing tt
 perform_alike (Settle n state) w l = settle_alike w l n state (object_in w.store n) (object_in w.store n).class
+perform_alike (TakeReaction n) w l = take_alike w l n (object_in w.store n) (object_in w.store n).class
 perform_alike (AddReaction n r) w l = react_alike w l n r (object_in w.store n) (object_in w.store n).class
 perform_alike (Enqueue job) w l = charged_alike (some_slots 4) (some_slots 4) tt (record w { jobs = w.jobs ++ job ∷ [] }) l
 perform_alike Dequeue w l = dequeue_alike w.jobs w l
@@ -114,12 +126,18 @@ perform_alike (Take line left) w l = (refl, refl)
 
 reply_alike : (q : Question) (w : World) (l : Ledger) → reply q (under w l) ≡ reply q w
 unfolding reply
-reply_alike (TheObject n) w l = refl
+reply_alike (TheClass n) w l = refl
+reply_alike (ThePrototype n) w l = refl
+reply_alike (IsExtensible n) w l = refl
+reply_alike (TheOwnProperty key n) w l = refl
+reply_alike (TheOwnKey place n) w l = refl
+reply_alike (IsOnChain p n) w l = refl
 reply_alike (TheCell n) w l = refl
 reply_alike (TheMark n) w l = refl
 reply_alike (TheProperty key n) w l = refl
 reply_alike (TheSetStep key v receiver found) w l = refl
-reply_alike (TheIntrinsic at) w l = refl
+reply_alike (TheIntrinsic i) w l = refl
+reply_alike (TheSort x f) w l = refl
 reply_alike TheInput w l = refl
 
 -- ---- runs

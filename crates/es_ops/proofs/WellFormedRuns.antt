@@ -6,10 +6,12 @@ use Rattle.js_value.specs.WellFormed.{IsValueBelow, AreNumbersBelow, IsContentBe
 use Rattle.es_ops.specs.State.{World, State}
 use Rattle.es_ops.specs.Ledger.{Event, Happens, Stops}
 use Rattle.es_ops.specs.InternalMethods.{property_from, find_property, longest, or_later, SetStep, RefusesSet, DefinesOn, set_own, set_own_content, set_data, set_by_setter, set_content, set_step, value_descriptor, data_descriptor}
-use Rattle.es_ops.specs.Events.{Question, reply, TheObject, TheCell, TheMark, TheProperty, TheSetStep, TheIntrinsic, TheInput, perform}
+use Rattle.es_ops.specs.Events.{Question, reply, TheClass, ThePrototype, IsExtensible, TheOwnProperty, TheOwnKey, IsOnChain, TheSort, TheCell, TheMark, TheProperty, TheSetStep, TheIntrinsic, TheInput, perform}
 use Rattle.es_ops.specs.Act.{Act, Give, Throw, Halt, Turn, Ask, Do, Call, Try, Completion, NormalCompletion, ThrowCompletion, Ran, Ends, Halts, Calls, with_world, spent, happened, returned, ended, run}
 use Rattle.es_ops.specs.Laws.{IfHappens, Grows, IsReplyBelow, IsQuestionBelow, IsStepBelow, IsDescriptorBelow, IsAnswerBelow, IsActBelow, IsCompletionBelow, IsWorldWellFormed, IsRanWellFormed, CallsWell}
 use Rattle.es_ops.proofs.Closed.{own_property_below}
+use Rattle.es_ops.specs.Intrinsics.{place_of}
+use Rattle.es_ops.proofs.OwnKeys.{own_key_is_key}
 use Rattle.es_ops.proofs.Growth.{perform_grows}
 use Rattle.es_ops.proofs.WellFormedStores.{perform_well}
 
@@ -77,12 +79,18 @@ intrinsic_below m (suc at) (n ∷ ns) l h = intrinsic_below m at ns l h.1
 
 pub reply_well : (q : Question) (w : World) → IsWorldWellFormed w → IsQuestionBelow (length w.store) q → IsReplyBelow (length w.store) q (reply q w)
 unfolding reply find_property
-reply_well (TheObject n) w h b = (h.store.objects n, h.store.orderly n)
+reply_well (TheClass n) w h b = (h.store.objects n).class
+reply_well (ThePrototype n) w h b = (h.store.objects n).prototype
+reply_well (IsExtensible n) w h b = tt
+reply_well (TheOwnProperty key n) w h b = own_property_below (length w.store) (object_in w.store n) key (h.store.orderly n) (h.store.objects n)
+reply_well (TheOwnKey place n) w h b = own_key_is_key (object_in w.store n) place (h.store.orderly n)
+reply_well (IsOnChain p n) w h b = tt
 reply_well (TheCell n) w h b = h.store.cells n
 reply_well (TheMark n) w h b = tt
 reply_well (TheProperty key n) w h b = property_below longest w.store key (Some n) h.store
 reply_well (TheSetStep key v receiver found) w h b = step_below w.store key v receiver found (length w.store) b.0 b.1 b.2
-reply_well (TheIntrinsic at) w h b = intrinsic_below (length w.store) at w.realm h.not_empty h.realm
+reply_well (TheSort x f) w h b = tt
+reply_well (TheIntrinsic i) w h b = intrinsic_below (length w.store) (place_of i) w.realm h.not_empty h.realm
 reply_well TheInput w h b = tt
 
 -- ---- runs

@@ -9,12 +9,12 @@ use Rattle.js_value.proofs.Below.{value_more, object_more, if_value_more, number
 use Rattle.js_value.proofs.Profile.{string_tested}
 use Rattle.js_value.specs.Job.{Job, FulfilJob, RejectJob, ThenableJob}
 use Rattle.js_value.specs.declared.counts.Room.{Room}
-use Rattle.es_ops.specs.State.{World, Ledger, plus, nothing, some_slots, some_units, ModuleState}
+use Rattle.es_ops.specs.State.{World, Ledger, plus, nothing, some_slots, some_units, ModuleState, cells_of}
 use Rattle.js_value.specs.declared.counts.Full.{Full}
 use Rattle.es_ops.specs.Ledger.{Happens, charged, charged_unless, passed, written, with_thing, first_cost, with_name, name_added, name_cost, growth}
 use Rattle.es_ops.specs.InternalMethods.{Method, DefineOwnProperty, Delete, PreventExtensions, SetPrototypeOf, Freeze, apply_method, set_prototype_of, same_prototype, on_chain, longest, refused, unchanged, wrote, prevent_extensions, freeze}
-use Rattle.es_ops.specs.Events.{Deed, perform, Make, Apply, Attach, SetCell, SetMark, Settle, AddReaction, Enqueue, Dequeue, AddRejection, RemoveRejection, MakeText, Write, Take, apply_outcome, settle_class, react_class, dequeue, attached, at_home, with_home, with_prototype, pointing_to, prototype_name}
-use Rattle.es_ops.specs.Laws.{IfHappens, IsMethodBelow, IsDeedBelow, IsJobBelow, AreJobsBelow, AreModulesBelow, IsAnswerBelow, AreReactionAnswersBelow, IsJobAnswerBelow, IsWorldWellFormed}
+use Rattle.es_ops.specs.Events.{Deed, perform, Make, Apply, Attach, SetCell, SetMark, Settle, TakeReaction, AddReaction, Enqueue, Dequeue, AddRejection, RemoveRejection, MakeText, Write, Take, apply_outcome, settle_class, take_reaction_class, react_class, dequeue, attached, at_home, with_home, with_prototype, pointing_to, prototype_name}
+use Rattle.es_ops.specs.Laws.{IfHappens, IsMethodBelow, IsDeedBelow, IsJobBelow, AreJobsBelow, AreModulesBelow, IsAnswerBelow, IsReactionAnswerBelow, IsJobAnswerBelow, IsWorldWellFormed}
 use Rattle.es_ops.proofs.Chains.{set_keeps, append_keeps, set_chain, append_chain, prototype_chain, cut_chain}
 use Rattle.es_ops.proofs.Prototypes.{define_prototype, delete_prototype, with_property_prototype}
 use Rattle.es_ops.proofs.Closed.{method_below, own_property_below, with_property_below}
@@ -81,7 +81,7 @@ jobs_more m k le (job ∷ jobs) h = (one job h.0, jobs_more m k le jobs h.1)
 
 modules_more : (m k : ℕ) → m ≤ k → (ms : List ModuleState) → AreModulesBelow m ms → AreModulesBelow k ms
 modules_more m k le [] h = tt
-modules_more m k le (s ∷ ms) h = (numbers_more m k le s.cells h.0, modules_more m k le ms h.1)
+modules_more m k le (s ∷ ms) h = (numbers_more m k le (cells_of s) h.0, modules_more m k le ms h.1)
 
 ledger_well : (w : World) (l : Ledger) → IsWorldWellFormed w → IsWorldWellFormed (record w { ledger = l })
 ledger_well w l h = record { store = h.store; jobs = h.jobs; rejections = h.rejections; realm = h.realm; modules = h.modules; not_empty = h.not_empty }
@@ -187,11 +187,11 @@ promise_set w n state reactions h s r l =
     (store_well w (set w.store n t) (set_le w.store n t) h
     (set_well w.store n t h.store (promise_orderly o state reactions (h.store.orderly n)) (promise_below (length w.store) o state reactions s r (h.store.objects n)) (set_chain w.store n t refl)))
 
-settle_well : (w : World) (n : ℕ) (state : PromiseState) (c : Class) → IsWorldWellFormed w → IsStateBelow (length w.store) state → IsClassBelow (length w.store) c → IfHappens (settle_class w n state (object_in w.store n) c) (λ a v. IsWorldWellFormed v × AreReactionAnswersBelow (length v.store) a)
+settle_well : (w : World) (n : ℕ) (state : PromiseState) (c : Class) → IsWorldWellFormed w → IsStateBelow (length w.store) state → IsClassBelow (length w.store) c → IfHappens (settle_class w n state (object_in w.store n) c) (λ a v. IsWorldWellFormed v × (Unit {0}))
 settle_well w n state (Promise Pending reactions) h s b =
-    let t : Thing = AnObject (record (object_in w.store n) { class = Promise state [] }) in
-    written_well (λ a v. IsWorldWellFormed v × AreReactionAnswersBelow (length v.store) a) w n (AnObject (object_in w.store n)) t nothing (Some reactions) (h, b.1)
-    (λ l. (promise_set w n state [] h s tt l, subst (λ m. AreReactionsBelow m reactions) (sym (length-set w.store n t)) b.1))
+    let t : Thing = AnObject (record (object_in w.store n) { class = Promise state reactions }) in
+    written_well (λ a v. IsWorldWellFormed v × (Unit {0})) w n (AnObject (object_in w.store n)) t nothing (Some (length reactions)) (h, tt)
+    (λ l. (promise_set w n state reactions h s b.1 l, tt))
 settle_well w n state (Promise (Fulfilled v) reactions) h s b = (h, tt)
 settle_well w n state (Promise (Rejected v) reactions) h s b = (h, tt)
 settle_well w n state Ordinary h s b = (h, tt)
@@ -201,6 +201,19 @@ settle_well w n state (BuiltInFunction row) h s b = (h, tt)
 settle_well w n state (ResolveFunction p m) h s b = (h, tt)
 settle_well w n state (RejectFunction p m) h s b = (h, tt)
 settle_well w n state Error h s b = (h, tt)
+
+take_well : (w : World) (n : ℕ) (c : Class) → IsWorldWellFormed w → IsClassBelow (length w.store) c → IfHappens (take_reaction_class w n (object_in w.store n) c) (λ a v. IsWorldWellFormed v × IsReactionAnswerBelow (length v.store) a)
+take_well w n (Promise state (r ∷ rs)) h b =
+    let t : Thing = AnObject (record (object_in w.store n) { class = Promise state rs }) in
+    (promise_set w n state rs h b.0 b.1.1 w.ledger, subst (λ m. IsReactionBelow m r) (sym (length-set w.store n t)) b.1.0)
+take_well w n (Promise state []) h b = (h, tt)
+take_well w n Ordinary h b = (h, tt)
+take_well w n (Array k e) h b = (h, tt)
+take_well w n (ScriptFunction m f g cs) h b = (h, tt)
+take_well w n (BuiltInFunction row) h b = (h, tt)
+take_well w n (ResolveFunction p m) h b = (h, tt)
+take_well w n (RejectFunction p m) h b = (h, tt)
+take_well w n Error h b = (h, tt)
 
 reactions_append : (m : ℕ) (rs : List Reaction) (r : Reaction) → AreReactionsBelow m rs → IsReactionBelow m r → AreReactionsBelow m (rs ++ r ∷ [])
 reactions_append m [] r h b = (b, tt)
@@ -360,6 +373,7 @@ perform_well (Attach f p a) w h b = (attach_well w f p a (slice_get w.store f) r
 perform_well (SetCell n v) w h b = other_well w n (ACell (cell_in w.store n)) (ACell (record { value = Some v; const = (cell_in w.store n).const })) nothing h tt b refl
 perform_well (SetMark n) w h b = other_well w n (AMark (mark_in w.store n)) (AMark true) nothing h tt tt refl
 perform_well (Settle n state) w h b = settle_well w n state (object_in w.store n).class h b (h.store.objects n).class
+perform_well (TakeReaction n) w h b = take_well w n (object_in w.store n).class h (h.store.objects n).class
 perform_well (AddReaction n r) w h b = react_well w n r (object_in w.store n).class h b (h.store.objects n).class
 perform_well (Enqueue job) w h b = charged_well (λ a v. IsWorldWellFormed v × (Unit {0})) (some_slots 4) tt (record w { jobs = w.jobs ++ job ∷ [] }) (λ l. (jobs_well w (w.jobs ++ job ∷ []) l h (jobs_append (length w.store) w.jobs job h.jobs b), tt))
 perform_well Dequeue w h b = dequeue_well w w.jobs h h.jobs

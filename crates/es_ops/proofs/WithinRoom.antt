@@ -9,7 +9,7 @@ use Rattle.es_ops.specs.State.{World, plus, nothing, some_slots, some_units}
 use Rattle.js_value.specs.declared.counts.Full.TheVariants.{Slots, Units, Names}
 use Rattle.es_ops.specs.Ledger.{Event, Happens, charged, charged_unless, written, with_thing, first_cost, with_name, name_added, name_cost, growth}
 use Rattle.es_ops.specs.InternalMethods.{Method, apply_method}
-use Rattle.es_ops.specs.Events.{Deed, perform, Make, Apply, Attach, SetCell, SetMark, Settle, AddReaction, Enqueue, Dequeue, AddRejection, RemoveRejection, MakeText, Write, Take, apply_outcome, settle_class, react_class, dequeue}
+use Rattle.es_ops.specs.Events.{Deed, perform, Make, Apply, Attach, SetCell, SetMark, Settle, TakeReaction, AddReaction, Enqueue, Dequeue, AddRejection, RemoveRejection, MakeText, Write, Take, apply_outcome, settle_class, take_reaction_class, react_class, dequeue}
 use Rattle.es_ops.specs.Laws.{IfHappens, IsWithinRoom}
 
 Within : {A : Type 0} → Event A → Type 0
@@ -50,7 +50,7 @@ apply_within w n m before answer (Some after) h =
 
 settle_within : (w : World) (n : ℕ) (state : PromiseState) (o : ObjectRecord) (c : Class) → IsWithinRoom w.ledger → Within (settle_class w n state o c)
 unfolding Within
-settle_within w n state o (Promise Pending reactions) h = written_within w n (AnObject o) (AnObject (record o { class = Promise state [] })) nothing (Some reactions) h
+settle_within w n state o (Promise Pending reactions) h = written_within w n (AnObject o) (AnObject (record o { class = Promise state reactions })) nothing (Some (length reactions)) h
 settle_within w n state o (Promise (Fulfilled v) reactions) h = h
 settle_within w n state o (Promise (Rejected v) reactions) h = h
 settle_within w n state o Ordinary h = h
@@ -60,6 +60,18 @@ settle_within w n state o (BuiltInFunction row) h = h
 settle_within w n state o (ResolveFunction p m) h = h
 settle_within w n state o (RejectFunction p m) h = h
 settle_within w n state o Error h = h
+
+take_within : (w : World) (n : ℕ) (o : ObjectRecord) (c : Class) → IsWithinRoom w.ledger → Within (take_reaction_class w n o c)
+unfolding Within
+take_within w n o (Promise state (r ∷ rs)) h = h
+take_within w n o (Promise state []) h = h
+take_within w n o Ordinary h = h
+take_within w n o (Array k b) h = h
+take_within w n o (ScriptFunction m f g cs) h = h
+take_within w n o (BuiltInFunction row) h = h
+take_within w n o (ResolveFunction p m) h = h
+take_within w n o (RejectFunction p m) h = h
+take_within w n o Error h = h
 
 react_within : (w : World) (n : ℕ) (r : Reaction) (o : ObjectRecord) (c : Class) → IsWithinRoom w.ledger → Within (react_class w n r o c)
 unfolding Within
@@ -91,6 +103,7 @@ perform_within (Attach f p a) w h = h
 perform_within (SetCell n v) w h = written_within w n (ACell (cell_in w.store n)) (ACell (record { value = Some v; const = (cell_in w.store n).const })) nothing tt h
 perform_within (SetMark n) w h = written_within w n (AMark (mark_in w.store n)) (AMark true) nothing tt h
 perform_within (Settle n state) w h = settle_within w n state (object_in w.store n) (object_in w.store n).class h
+perform_within (TakeReaction n) w h = take_within w n (object_in w.store n) (object_in w.store n).class h
 perform_within (AddReaction n r) w h = react_within w n r (object_in w.store n) (object_in w.store n).class h
 perform_within (Enqueue job) w h = charged_within (some_slots 4) tt (record w { jobs = w.jobs ++ job ∷ [] })
 perform_within Dequeue w h = dequeue_within w.jobs w h

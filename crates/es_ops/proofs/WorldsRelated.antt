@@ -130,6 +130,7 @@ module _ (ps : Pairs) (w v : World) (b : BothWorld ps w v) where
     jobs = b.jobs;
     rejections = b.rejections;
     modules = b.modules;
+    functions = b.functions;
     trace = b.trace;
     input = b.input;
   }
@@ -152,6 +153,7 @@ module _ (ps : Pairs) (w v : World) (b : BothWorld ps w v) where
         jobs = b.jobs;
         rejections = b.rejections;
         modules = b.modules;
+        functions = b.functions;
         trace = b.trace;
         input = b.input;
       }

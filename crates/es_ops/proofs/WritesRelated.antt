@@ -1,5 +1,5 @@
 -- Cells, defines, sets, deletes and equality are the same but for the numbers of things.
-use Rattle.std.proofs.Common.{◌≡◌, ℕ, zero, suc, ◌<◌, Bool, true, false, cond, not, ◌&&◌, ◌||◌, ℤ, pos, negsuc, nat_lt, arith, refl, ap, ap₂, Option, is_some, lit≤}
+use Rattle.std.proofs.Common.{◌≡◌, ℕ, zero, suc, ◌<◌, Bool, true, false, cond, not, ◌&&◌, ◌||◌, ℤ, pos, negsuc, nat_lt, arith, refl, ap, ap₂, Option, is_some}
 use Rattle.std.proofs.lemmas.Bool.Decides.{nat_tests}
 use Rattle.js_value.specs.Value.{Value, Number, Text, Key, is_index, text_of_key}
 use Rattle.js_value.specs.Store.{Property, Class, is_length_of}
@@ -8,15 +8,16 @@ use Rattle.es_ops.specs.Equality.{same_value}
 use Rattle.es_ops.specs.Messages.{AssignmentToConstant, InvalidArrayLength, NotDefinable, AccessorOnIndex}
 use Rattle.es_ops.specs.InternalMethods.{PropertyDescriptor, DefineOwnProperty, SetStep}
 use Rattle.es_ops.specs.Events.{Apply}
+use Rattle.es_ops.specs.Intrinsics.{Intrinsic, StringPrototype, NumberPrototype, BooleanPrototype}
 use Rattle.es_ops.specs.Act.{Act, Do}
 use Rattle.es_ops.specs.Errors.{raise}
 use Rattle.es_ops.specs.PropertyReads.{StringProperty, AUnit, Length, Inherits}
 use Rattle.es_ops.specs.Conversions.{Comparison, Equals, NumberLeft, NumberRight, PrimitiveLeft, PrimitiveRight, comparison, next_comparison, loosely_equal_within, is_loosely_equal}
 use Rattle.es_ops.specs.Bindings.{make_cell, initialize_cell, value_or_raise, read_cell, write_cell, copy_cell}
 use Rattle.es_ops.specs.PropertyWrites.{NumberConversion, length_or_raise, with_length_value, is_accessor_on_index, define_own_property, accepted_or, define_property_or_throw, create_data_property, create_data_property_or_throw, take_set_step, set_found, ordinary_set, set_inherited, set_on_string, set_v, set_or_throw, put_value, delete_property_or_throw, delete_on_string, delete_v}
-use Rattle.es_ops.specs.Related.{Naming, BothOption, BothNone, BothSome, BothValue, BothUndefined, BothNull, BothBoolean, BothNumber, BothString, BothObject, BothProperty, BothClass, BothOrdinary, BothArray, BothScript, BothBuiltIn, BothResolve, BothReject, BothError, BothPromise, BothDescriptor, BothSetStep, BothRefuses, BothCalls, BothDefines, Related, BothAsk, BothDo, Then, IsOneToOne, intrinsics}
+use Rattle.es_ops.specs.Related.{Naming, BothOption, BothNone, BothSome, BothValue, BothUndefined, BothNull, BothBoolean, BothNumber, BothString, BothObject, BothProperty, BothClass, BothOrdinary, BothArray, BothScript, BothBuiltIn, BothResolve, BothReject, BothError, BothPromise, BothDescriptor, BothSetStep, BothRefuses, BothCalls, BothDefines, Related, BothDo, Then, IsOneToOne}
 use Rattle.es_ops.specs.Handed.{Converts}
-use Rattle.es_ops.proofs.Acting.{acting, ask_cell, do_cell}
+use Rattle.es_ops.proofs.Acting.{acting, ask_class, ask_cell, do_cell}
 use Rattle.es_ops.proofs.Parts.{cond_related, same_number}
 use Rattle.es_ops.proofs.ReadsRelated.{raise_related, to_primitive_related, to_number_related, number_expected_related}
 
@@ -79,7 +80,7 @@ length_same t (BothPromise s rs) = refl
 
 pub define_related : {R : Naming} (convert : NumberConversion) → Converts R convert → (m n : ℕ) (key : Key) (d e : PropertyDescriptor) (k l : Bool → Act) → R m n → IsKey key → BothDescriptor R d e → ((b : Bool) → Related R (k b) (l b)) → Related R (define_own_property convert m key d k) (define_own_property convert n key e l)
 unfolding define_own_property
-define_related {R} convert c m n key d e k l r i b h = BothAsk r (λ o p f. rw (length_same (text_of_key key) f.class) (cond_related (not (is_index key) && is_length_of p.class (text_of_key key)) _ _ _ _ (length_value_related convert c d e _ _ b b.value define) (define d e b)))
+define_related {R} convert c m n key d e k l r i b h = ask_class r (λ x y f. rw (length_same (text_of_key key) f) (cond_related (not (is_index key) && is_length_of y (text_of_key key)) _ _ _ _ (length_value_related convert c d e _ _ b b.value define) (define d e b)))
   where
     define : (d e : PropertyDescriptor) → BothDescriptor R d e → Related R (Do (Apply m (DefineOwnProperty key d)) k) (Do (Apply n (DefineOwnProperty key e)) l)
     define d e b = BothDo (r, (refl, i, b)) (λ x y q. rw q (h y))
@@ -115,11 +116,11 @@ pub ordinary_set_related : {R : Naming} (convert : NumberConversion) → Convert
 unfolding ordinary_set
 ordinary_set_related convert c m n key v w t u k l r i b f h = search (acting, refl, set_found_related)
 
-set_inherited_related : {R : Naming} (convert : NumberConversion) → Converts R convert → (place : ℕ) → place < intrinsics → (key : Key) {v w t u : Value} (k l : Bool → Act) → IsKey key → BothValue R v w → BothValue R t u → ((b : Bool) → Related R (k b) (l b)) → Related R (set_inherited convert place key v t k) (set_inherited convert place key w u l)
-set_inherited_related convert c place z key k l i b f h = search (acting, ordinary_set_related, refl)
+set_inherited_related : {R : Naming} (convert : NumberConversion) → Converts R convert → (i : Intrinsic) (key : Key) {v w t u : Value} (k l : Bool → Act) → IsKey key → BothValue R v w → BothValue R t u → ((b : Bool) → Related R (k b) (l b)) → Related R (set_inherited convert i key v t k) (set_inherited convert i key w u l)
+set_inherited_related convert c z key k l i b f h = search (acting, ordinary_set_related, refl)
 
 set_string_related : {R : Naming} (convert : NumberConversion) → Converts R convert → (p : StringProperty) (t : Text) (key : Key) {v w : Value} (k l : Bool → Act) → IsKey key → IsString t → BothValue R v w → ((b : Bool) → Related R (k b) (l b)) → Related R (set_on_string p convert t key v k) (set_on_string p convert t key w l)
-set_string_related convert c Inherits t key k l i a b h = set_inherited_related convert c 11 (lit≤ tt) key k l i b (BothString a) h
+set_string_related convert c Inherits t key k l i a b h = set_inherited_related convert c StringPrototype key k l i b (BothString a) h
 set_string_related convert c (AUnit u) t key k l i a b h = search (acting)
 set_string_related convert c Length t key k l i a b h = search (acting)
 
@@ -127,8 +128,8 @@ pub set_v_related : {R : Naming} (convert : NumberConversion) → Converts R con
 unfolding set_v
 set_v_related convert c x y key v w k l (BothObject {m = m} {n = n} r) i b h = search (acting, ordinary_set_related)
 set_v_related convert c x y key v w k l (BothString {t = t} a) i b h = search (acting, set_string_related)
-set_v_related convert c x y key v w k l (BothNumber a) i b h = set_inherited_related convert c 8 (lit≤ tt) key k l i b (BothNumber a) h
-set_v_related convert c x y key v w k l BothBoolean i b h = set_inherited_related convert c 7 (lit≤ tt) key k l i b BothBoolean h
+set_v_related convert c x y key v w k l (BothNumber a) i b h = set_inherited_related convert c NumberPrototype key k l i b (BothNumber a) h
+set_v_related convert c x y key v w k l BothBoolean i b h = set_inherited_related convert c BooleanPrototype key k l i b BothBoolean h
 set_v_related convert c x y key v w k l BothUndefined i b h = search (acting, raise_related)
 set_v_related convert c x y key v w k l BothNull i b h = search (acting, raise_related)
 

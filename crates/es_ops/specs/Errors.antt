@@ -2,37 +2,10 @@
 use Rattle.std.specs.Prelude.{ℕ, true, false, cond, [], ◌∷◌, length, nat_lt, Some, codes}
 use Rattle.js_value.specs.Value.{Value, Object, String, Text}
 use Rattle.js_value.specs.Store.{AnObject, ObjectRecord, Error, Property, Data}
-use Rattle.es_ops.specs.Messages.{Message, StringTooLong, ErrorKind, RangeError, ReferenceError, TypeError, kind_of_message, text_of_message}
+use Rattle.es_ops.specs.Messages.{Message, StringTooLong, kind_of_message, text_of_message}
+use Rattle.es_ops.specs.Intrinsics.{error_prototype}
 use Rattle.es_ops.specs.Events.{TheIntrinsic, Make, MakeText}
 use Rattle.es_ops.specs.Act.{Act, Throw, Ask, Do}
-
--- ---- the intrinsic objects that are named here, by their places in the realm (ECMA-262 6.1.7.4)
-
-abbrev pub object_prototype : ℕ
-object_prototype = 0
-
-abbrev pub function_prototype : ℕ
-function_prototype = 1
-
-abbrev pub boolean_prototype : ℕ
-boolean_prototype = 7
-
-abbrev pub number_prototype : ℕ
-number_prototype = 8
-
-abbrev pub promise_prototype : ℕ
-promise_prototype = 10
-
-abbrev pub string_prototype : ℕ
-string_prototype = 11
-
-abbrev pub array_prototype : ℕ
-array_prototype = 12
-
-abbrev pub error_prototype : ErrorKind → ℕ
-error_prototype RangeError = 3
-error_prototype ReferenceError = 4
-error_prototype TypeError = 6
 
 -- ---- errors (20.5)
 

@@ -1,39 +1,62 @@
 -- What operations may ask of the world and do to it. Each deed is one event of the ledger.
 use Rattle.std.specs.Prelude.{ℕ, Bool, true, not, List, [], ◌∷◌, ◌++◌, length, ◌==◌, Option, Some, None, get_or, set, slice_get, filter, codes}
 use Rattle.js_value.specs.Value.{Value, Object, Text, Key, Named}
-use Rattle.js_value.specs.Store.{Store, Thing, AnObject, ACell, AMark, ObjectRecord, CellRecord, Property, Content, Data, Accessor, Class, ScriptFunction, Promise, PromiseState, Pending, Reaction, object_in, cell_in, mark_in, own_property, with_property, size}
+use Rattle.js_value.specs.Store.{Store, Thing, AnObject, ACell, AMark, ObjectRecord, CellRecord, Property, Content, Data, Accessor, Class, ScriptFunction, Promise, PromiseState, Pending, Reaction, object_in, cell_in, mark_in, own_property, own_keys, with_property, size}
 use Rattle.js_value.specs.Job.{Job}
-use Rattle.es_ops.specs.State.{World, nothing, some_slots, some_units, plus, Wrote, Took}
-use Rattle.es_ops.specs.InternalMethods.{Method, apply_method, find_property, SetStep, set_step}
+use Rattle.es_ops.specs.Intrinsics.{Intrinsic, place_of}
+use Rattle.es_ops.specs.State.{FunctionSort, OnlyCalled, World, nothing, some_slots, some_units, plus, Wrote, Took}
+use Rattle.es_ops.specs.InternalMethods.{Method, apply_method, longest, on_chain, find_property, SetStep, set_step}
 use Rattle.es_ops.specs.Ledger.{Event, Happens, charged, written, with_name, name_added, name_cost, growth}
 
 -- ---- questions
 
 pub data Question : Type 0 where
-  TheObject : ℕ → Question
+  TheClass : ℕ → Question
+  ThePrototype : ℕ → Question
+  IsExtensible : ℕ → Question
+  TheOwnProperty : Key → ℕ → Question
+  TheOwnKey : (place : ℕ) → ℕ → Question  -- in the order of own keys, from 0
+  IsOnChain : (prototype : ℕ) → ℕ → Question  -- among the object's prototypes
   TheCell : ℕ → Question
   TheMark : ℕ → Question
   TheProperty : Key → ℕ → Question  -- on the object or along its prototype chain
   TheSetStep : Key → Value → (receiver : Value) → (found : Option Property) → Question
-  TheIntrinsic : ℕ → Question  -- the realm's thing at a place
+  TheIntrinsic : Intrinsic → Question
+  TheSort : (module_number function_number : ℕ) → Question  -- what a script function is
   TheInput : Question  -- the bytes that are left, where there is a host
 
 abbrev pub Reply : Question → Type 0
-Reply (TheObject n) = ObjectRecord
+Reply (TheClass n) = Class
+Reply (ThePrototype n) = Option ℕ
+Reply (IsExtensible n) = Bool
+Reply (TheOwnProperty key n) = Option Property
+Reply (TheOwnKey place n) = Option Key
+Reply (IsOnChain p n) = Bool
 Reply (TheCell n) = CellRecord
 Reply (TheMark n) = Bool
 Reply (TheProperty key n) = Option Property
 Reply (TheSetStep key v receiver found) = SetStep
-Reply (TheIntrinsic at) = ℕ
+Reply (TheIntrinsic i) = ℕ
+Reply (TheSort module_number function_number) = FunctionSort
 Reply TheInput = Option (List ℕ)
 
+-- a function that the table doesn't have is only called
+abbrev pub sort_in : List (List FunctionSort) → (module_number function_number : ℕ) → FunctionSort
+sort_in sorts module_number function_number = get_or (get_or sorts module_number []) function_number OnlyCalled
+
 unfoldable pub reply : (q : Question) → World → Reply q
-reply (TheObject n) w = object_in w.store n
+reply (TheClass n) w = (object_in w.store n).class
+reply (ThePrototype n) w = (object_in w.store n).prototype
+reply (IsExtensible n) w = (object_in w.store n).extensible
+reply (TheOwnProperty key n) w = own_property (object_in w.store n) key
+reply (TheOwnKey place n) w = slice_get (own_keys (object_in w.store n)) place
+reply (IsOnChain p n) w = on_chain longest w.store p (object_in w.store n).prototype
 reply (TheCell n) w = cell_in w.store n
 reply (TheMark n) w = mark_in w.store n
 reply (TheProperty key n) w = find_property w.store key n
 reply (TheSetStep key v receiver found) w = set_step w.store key v receiver found
-reply (TheIntrinsic at) w = get_or w.realm at 0
+reply (TheIntrinsic i) w = get_or w.realm (place_of i) 0
+reply (TheSort module_number function_number) w = sort_in w.functions module_number function_number
 reply TheInput w = w.input
 
 -- ---- deeds
@@ -45,6 +68,7 @@ pub data Deed : Type 0 where
   SetCell : ℕ → Value → Deed
   SetMark : ℕ → Deed
   Settle : ℕ → PromiseState → Deed  -- a promise that is pending
+  TakeReaction : ℕ → Deed  -- the first one of a promise that was settled in the same operation
   AddReaction : ℕ → Reaction → Deed  -- to a promise that is pending
   Enqueue : Job → Deed
   Dequeue : Deed
@@ -57,7 +81,8 @@ pub data Deed : Type 0 where
 abbrev pub Answer : Deed → Type 0
 Answer (Make t) = ℕ
 Answer (Apply n m) = Bool
-Answer (Settle n state) = Option (List Reaction)
+Answer (Settle n state) = Option ℕ
+Answer (TakeReaction n) = Option Reaction
 Answer Dequeue = Option Job
 Answer _ = Unit {0}
 
@@ -110,13 +135,21 @@ set_cell n v w =
 abbrev pub set_mark : ℕ → World → Event (Unit {0})
 set_mark n w = written w n (AMark (mark_in w.store n)) (AMark true) nothing tt
 
--- A promise that isn't pending stays as it is, and the answer is none; else its reactions are handed out.
-abbrev pub settle_class : World → ℕ → PromiseState → ObjectRecord → Class → Event (Option (List Reaction))
-settle_class w n state o (Promise Pending reactions) = written w n (AnObject o) (AnObject (record o { class = Promise state [] })) nothing (Some reactions)
+-- A promise that isn't pending stays as it is, and the answer is none; else it is the number of its reactions.
+abbrev pub settle_class : World → ℕ → PromiseState → ObjectRecord → Class → Event (Option ℕ)
+settle_class w n state o (Promise Pending reactions) = written w n (AnObject o) (AnObject (record o { class = Promise state reactions })) nothing (Some (length reactions))
 settle_class w n state o c = Happens None w
 
-abbrev pub settle : ℕ → PromiseState → World → Event (Option (List Reaction))
+abbrev pub settle : ℕ → PromiseState → World → Event (Option ℕ)
 settle n state w = settle_class w n state (object_in w.store n) (object_in w.store n).class
+
+-- The promise was written when it was settled, so that this costs nothing.
+abbrev pub take_reaction_class : World → ℕ → ObjectRecord → Class → Event (Option Reaction)
+take_reaction_class w n o (Promise state (r ∷ rs)) = Happens (Some r) (record w { store = set w.store n (AnObject (record o { class = Promise state rs })) })
+take_reaction_class w n o c = Happens None w
+
+abbrev pub take_reaction : ℕ → World → Event (Option Reaction)
+take_reaction n w = take_reaction_class w n (object_in w.store n) (object_in w.store n).class
 
 abbrev pub react_class : World → ℕ → Reaction → ObjectRecord → Class → Event (Unit {0})
 react_class w n r o (Promise Pending reactions) =
@@ -138,6 +171,7 @@ perform (Attach f p is_home) w = Happens tt (record w { store = attached p is_ho
 perform (SetCell n v) w = set_cell n v w
 perform (SetMark n) w = set_mark n w
 perform (Settle n state) w = settle n state w
+perform (TakeReaction n) w = take_reaction n w
 perform (AddReaction n r) w = add_reaction n r w
 perform (Enqueue job) w = charged (some_slots 4) tt (record w { jobs = w.jobs ++ job ∷ [] })
 perform Dequeue w = dequeue w.jobs w

@@ -1,39 +1,48 @@
 -- Promises and their jobs (ECMA-262 27.2).
-use Rattle.std.specs.Prelude.{ℕ, true, false, cond, List, [], ◌∷◌, pos, Option, Some, None, codes}
+use Rattle.std.specs.Prelude.{ℕ, zero, suc, true, false, cond, [], ◌∷◌, pos, Option, Some, None, codes}
 use Rattle.js_value.specs.Value.{Value, Undefined, Number, String, Object, Named}
 use Rattle.js_value.specs.Store.{AnObject, AMark, ObjectRecord, Class, ResolveFunction, RejectFunction, Promise, Pending, Fulfilled, Rejected, Reaction, Property, Data, length_name}
 use Rattle.es_ops.specs.Equality.{same_value}
 use Rattle.js_value.specs.Job.{Job, FulfilJob, RejectJob, ThenableJob}
 use Rattle.es_ops.specs.Messages.{ResolvedWithItself}
-use Rattle.es_ops.specs.Events.{TheObject, TheMark, TheIntrinsic, Make, SetMark, Settle, AddReaction, Enqueue, Dequeue, AddRejection, RemoveRejection}
+use Rattle.es_ops.specs.Intrinsics.{FunctionPrototype, PromisePrototype}
+use Rattle.es_ops.specs.Events.{TakeReaction, TheClass, TheMark, TheIntrinsic, Make, SetMark, Settle, AddReaction, Enqueue, Dequeue, AddRejection, RemoveRejection}
 use Rattle.es_ops.specs.Act.{Act, Give, Turn, Ask, Do, Try, Completion, NormalCompletion, ThrowCompletion, completed}
-use Rattle.es_ops.specs.Errors.{make_error, function_prototype, promise_prototype}
+use Rattle.es_ops.specs.Errors.{make_error}
 use Rattle.es_ops.specs.PropertyReads.{get, is_callable}
 
 -- ---- settling
 
 -- TriggerPromiseReactions (27.2.1.8), of a promise that was fulfilled or rejected
-abbrev pub enqueue_fulfil_jobs : List Reaction → Value → Act → Act
-enqueue_fulfil_jobs [] v k = k
-enqueue_fulfil_jobs (r ∷ rs) v k = Do (Enqueue (FulfilJob r.on_fulfilled r.derived v)) (λ _. enqueue_fulfil_jobs rs v k)
+abbrev pub enqueue_fulfil_job : Option Reaction → Value → Act → Act
+enqueue_fulfil_job None v k = k
+enqueue_fulfil_job (Some r) v k = Do (Enqueue (FulfilJob r.on_fulfilled r.derived v)) (λ _. k)
 
-abbrev pub enqueue_reject_jobs : List Reaction → Value → Act → Act
-enqueue_reject_jobs [] reason k = k
-enqueue_reject_jobs (r ∷ rs) reason k = Do (Enqueue (RejectJob r.on_rejected r.derived reason)) (λ _. enqueue_reject_jobs rs reason k)
+abbrev pub enqueue_fulfil_jobs : (reactions : ℕ) → (promise : ℕ) → Value → Act → Act
+enqueue_fulfil_jobs zero p v k = k
+enqueue_fulfil_jobs (suc n) p v k = Do (TakeReaction p) (λ r. enqueue_fulfil_job r v (enqueue_fulfil_jobs n p v k))
+
+abbrev pub enqueue_reject_job : Option Reaction → Value → Act → Act
+enqueue_reject_job None reason k = k
+enqueue_reject_job (Some r) reason k = Do (Enqueue (RejectJob r.on_rejected r.derived reason)) (λ _. k)
+
+abbrev pub enqueue_reject_jobs : (reactions : ℕ) → (promise : ℕ) → Value → Act → Act
+enqueue_reject_jobs zero p reason k = k
+enqueue_reject_jobs (suc n) p reason k = Do (TakeReaction p) (λ r. enqueue_reject_job r reason (enqueue_reject_jobs n p reason k))
 
 -- FulfillPromise (27.2.1.4). Own rule: a promise that isn't pending stays as it is.
-abbrev pub fulfilled : Option (List Reaction) → Value → Act → Act
-fulfilled None v k = k
-fulfilled (Some reactions) v k = enqueue_fulfil_jobs reactions v k
+abbrev pub fulfilled : ℕ → Option ℕ → Value → Act → Act
+fulfilled p None v k = k
+fulfilled p (Some reactions) v k = enqueue_fulfil_jobs reactions p v k
 
 unfoldable pub fulfil_promise : ℕ → Value → Act → Act
-fulfil_promise p v k = Do (Settle p (Fulfilled v)) (λ reactions. fulfilled reactions v k)
+fulfil_promise p v k = Do (Settle p (Fulfilled v)) (λ reactions. fulfilled p reactions v k)
 
 -- RejectPromise (27.2.1.7): with no reaction the promise joins the rejections (27.2.1.9)
-abbrev pub rejected : ℕ → Option (List Reaction) → Value → Act → Act
+abbrev pub rejected : ℕ → Option ℕ → Value → Act → Act
 rejected p None reason k = k
-rejected p (Some []) reason k = Do (AddRejection p) (λ _. k)
-rejected p (Some (r ∷ rs)) reason k = enqueue_reject_jobs (r ∷ rs) reason k
+rejected p (Some zero) reason k = Do (AddRejection p) (λ _. k)
+rejected p (Some (suc n)) reason k = enqueue_reject_jobs (suc n) p reason k
 
 unfoldable pub reject_promise : ℕ → (reason : Value) → Act → Act
 reject_promise p reason k = Do (Settle p (Rejected reason)) (λ reactions. rejected p reactions reason k)
@@ -76,7 +85,7 @@ resolving_function class prototype = record {
 unfoldable pub create_resolving_functions : ℕ → ((mark resolve reject : ℕ) → Act) → Act
 create_resolving_functions p k =
     Do (Make (AMark false)) (λ mark.
-    Ask (TheIntrinsic function_prototype) (λ prototype.
+    Ask (TheIntrinsic FunctionPrototype) (λ prototype.
     Do (Make (AnObject (resolving_function (ResolveFunction p mark) prototype))) (λ resolve.
     Do (Make (AnObject (resolving_function (RejectFunction p mark) prototype))) (λ reject. k mark resolve reject))))
 
@@ -98,7 +107,7 @@ abbrev pub promise_record : (prototype : ℕ) → ObjectRecord
 promise_record prototype = record { class = Promise Pending []; prototype = Some prototype; extensible = true; indexed = []; named = [] }
 
 unfoldable pub make_promise : (ℕ → Act) → Act
-make_promise k = Ask (TheIntrinsic promise_prototype) (λ prototype. Do (Make (AnObject (promise_record prototype))) k)
+make_promise k = Ask (TheIntrinsic PromisePrototype) (λ prototype. Do (Make (AnObject (promise_record prototype))) k)
 
 -- a handler that isn't callable is taken as undefined (27.2.5.4.1, steps 3 and 5)
 abbrev pub handler_of : Value → (Value → Act) → Act
@@ -114,7 +123,7 @@ then_by_class p class f r derived k = k
 -- PerformPromiseThen (27.2.5.4.1)
 unfoldable pub perform_promise_then : ℕ → (on_fulfilled on_rejected : Value) → (derived : ℕ) → Act → Act
 perform_promise_then p on_fulfilled on_rejected derived k =
-    handler_of on_fulfilled (λ f. handler_of on_rejected (λ r. Ask (TheObject p) (λ o. then_by_class p o.class f r derived k)))
+    handler_of on_fulfilled (λ f. handler_of on_rejected (λ r. Ask (TheClass p) (λ class. then_by_class p class f r derived k)))
 
 -- Promise.prototype.then (27.2.5.4) on a promise. Own rule: it makes a plain promise, and reads no constructor.
 unfoldable pub promise_then : ℕ → (on_fulfilled on_rejected : Value) → (ℕ → Act) → Act

@@ -2,13 +2,13 @@
 use Rattle.std.specs.Prelude.{◌≡◌, ℕ, suc, ◌≤◌, ◌<◌, Bool, false, ◌==◌, List, [], ◌∷◌, ◌++◌, length, IfSome, Option, Some, None}
 use Rattle.js_value.specs.Value.{Value, Text}
 use Rattle.js_value.specs.Store.{Reaction}
-use Rattle.js_value.specs.Order.{IsKey, IsOrderly}
-use Rattle.js_value.specs.WellFormed.{IsValueBelow, IfValueBelow, IfNumberBelow, AreNumbersBelow, AreValuesBelow, IsContentBelow, IsStateBelow, IsReactionBelow, AreReactionsBelow, IsObjectBelow, IsThingBelow, IsThingOrderly, IsWellFormed}
+use Rattle.js_value.specs.Order.{IsKey}
+use Rattle.js_value.specs.WellFormed.{IsValueBelow, IfValueBelow, IfNumberBelow, AreNumbersBelow, AreValuesBelow, IsContentBelow, IsStateBelow, IsReactionBelow, IsClassBelow, IsThingBelow, IsThingOrderly, IsWellFormed}
 use Rattle.js_value.specs.Job.{Job, FulfilJob, RejectJob, ThenableJob}
-use Rattle.es_ops.specs.State.{Ledger, World, State, ModuleState}
+use Rattle.es_ops.specs.State.{Ledger, World, State, ModuleState, cells_of}
 use Rattle.es_ops.specs.Ledger.{Event, Happens, Stops, OutOf}
 use Rattle.es_ops.specs.InternalMethods.{PropertyDescriptor, Method, DefineOwnProperty, SetPrototypeOf, SetStep, RefusesSet, CallsSetter, DefinesOn}
-use Rattle.es_ops.specs.Events.{Question, Reply, TheObject, TheCell, TheMark, TheProperty, TheSetStep, TheIntrinsic, TheInput, Deed, Answer, Make, Apply, Attach, SetCell, SetMark, Settle, AddReaction, Enqueue, Dequeue, AddRejection}
+use Rattle.es_ops.specs.Events.{Question, Reply, TheClass, ThePrototype, IsExtensible, TheOwnProperty, TheOwnKey, IsOnChain, TheSort, TheCell, TheMark, TheProperty, TheSetStep, TheIntrinsic, TheInput, Deed, Answer, Make, Apply, Attach, SetCell, SetMark, Settle, TakeReaction, AddReaction, Enqueue, Dequeue, AddRejection}
 use Rattle.es_ops.specs.Act.{Act, Give, Throw, Halt, Turn, Ask, Do, Call, Try, Completion, NormalCompletion, ThrowCompletion, Ran, Ends, Halts, Calls, with_world}
 
 -- ---- two ways of calling that agree
@@ -74,6 +74,7 @@ changes (Attach f p is_home) k = f == k
 changes (SetCell n v) k = n == k
 changes (SetMark n) k = n == k
 changes (Settle n state) k = n == k
+changes (TakeReaction n) k = n == k
 changes (AddReaction n r) k = n == k
 changes _ k = false
 
@@ -102,7 +103,7 @@ AreJobsBelow m (job ∷ jobs) = IsJobBelow m job × AreJobsBelow m jobs
 -- the cells of modules' top-level bindings
 abbrev pub AreModulesBelow : ℕ → List ModuleState → Type 0
 AreModulesBelow m [] = Unit {0}
-AreModulesBelow m (s ∷ ss) = AreNumbersBelow m s.cells × AreModulesBelow m ss
+AreModulesBelow m (s ∷ ss) = AreNumbersBelow m (cells_of s) × AreModulesBelow m ss
 
 -- a thing that is made is in order itself
 abbrev pub IsDeedBelow : ℕ → Deed → Type 0
@@ -123,12 +124,18 @@ IsStepBelow m (DefinesOn r d) = (r < m) × IsDescriptorBelow m d
 
 -- what a question answers
 abbrev pub IsReplyBelow : ℕ → (q : Question) → Reply q → Type 0
-IsReplyBelow m (TheObject n) o = IsObjectBelow m o × IsOrderly o
+IsReplyBelow m (TheClass n) c = IsClassBelow m c
+IsReplyBelow m (ThePrototype n) p = IfNumberBelow m p
+IsReplyBelow m (IsExtensible n) b = Unit {0}
+IsReplyBelow m (TheOwnProperty key n) p = IfSome p (λ q. IsContentBelow m q.content)
+IsReplyBelow m (TheOwnKey place n) key = IfSome key IsKey
+IsReplyBelow m (IsOnChain p n) b = Unit {0}
 IsReplyBelow m (TheCell n) c = IfValueBelow m c.value
 IsReplyBelow m (TheMark n) b = Unit {0}
 IsReplyBelow m (TheProperty key n) p = IfSome p (λ q. IsContentBelow m q.content)
 IsReplyBelow m (TheSetStep key v receiver found) step = IsStepBelow m step
-IsReplyBelow m (TheIntrinsic at) n = n < m
+IsReplyBelow m (TheIntrinsic i) n = n < m
+IsReplyBelow m (TheSort module_number function_number) sort = Unit {0}
 IsReplyBelow m TheInput input = Unit {0}
 
 abbrev pub IsQuestionBelow : ℕ → Question → Type 0
@@ -139,14 +146,14 @@ abbrev pub IsJobAnswerBelow : ℕ → Option Job → Type 0
 IsJobAnswerBelow m None = Unit {0}
 IsJobAnswerBelow m (Some job) = IsJobBelow m job
 
-abbrev pub AreReactionAnswersBelow : ℕ → Option (List Reaction) → Type 0
-AreReactionAnswersBelow m None = Unit {0}
-AreReactionAnswersBelow m (Some reactions) = AreReactionsBelow m reactions
+abbrev pub IsReactionAnswerBelow : ℕ → Option Reaction → Type 0
+IsReactionAnswerBelow m None = Unit {0}
+IsReactionAnswerBelow m (Some r) = IsReactionBelow m r
 
 -- what a deed answers
 abbrev pub IsAnswerBelow : ℕ → (d : Deed) → Answer d → Type 0
 IsAnswerBelow m (Make t) n = n < m
-IsAnswerBelow m (Settle n state) reactions = AreReactionAnswersBelow m reactions
+IsAnswerBelow m (TakeReaction n) reaction = IsReactionAnswerBelow m reaction
 IsAnswerBelow m Dequeue job = IsJobAnswerBelow m job
 IsAnswerBelow m _ a = Unit {0}
 

@@ -1,5 +1,6 @@
 pub mod Equality
 pub mod Messages
+pub mod Intrinsics
 pub mod State
 pub mod InternalMethods
 pub mod Ledger

@@ -4,9 +4,10 @@ use Rattle.js_value.specs.Value.{Value, Undefined, Null, Boolean, Number, String
 use Rattle.js_value.specs.Store.{Property, is_length_of}
 use Rattle.es_ops.specs.InternalMethods.{PropertyDescriptor, data_descriptor, is_accessor_descriptor, is_data_descriptor, DefineOwnProperty, Delete, SetStep, RefusesSet, CallsSetter, DefinesOn}
 use Rattle.es_ops.specs.Messages.{InvalidArrayLength, NoProperties, NotWritable, NotDefinable, NotDeletable, AccessorOnIndex}
-use Rattle.es_ops.specs.Events.{TheObject, TheProperty, TheSetStep, TheIntrinsic, Apply}
+use Rattle.es_ops.specs.Intrinsics.{Intrinsic, StringPrototype, NumberPrototype, BooleanPrototype}
+use Rattle.es_ops.specs.Events.{TheClass, TheProperty, TheSetStep, TheIntrinsic, Apply}
 use Rattle.es_ops.specs.Act.{Act, Ask, Do, Call}
-use Rattle.es_ops.specs.Errors.{raise, boolean_prototype, number_prototype, string_prototype}
+use Rattle.es_ops.specs.Errors.{raise}
 use Rattle.es_ops.specs.PropertyReads.{StringProperty, Inherits, string_property}
 use Rattle.es_ops.specs.Conversions.{to_number, number_expected}
 
@@ -26,8 +27,8 @@ with_length_value convert d None k = k d
 with_length_value convert d (Some v) k = convert v (λ n. length_or_raise n (λ length. k (record d { value = Some length })))
 
 unfoldable pub define_own_property : NumberConversion → ℕ → Key → PropertyDescriptor → (Bool → Act) → Act
-define_own_property convert n key d k = Ask (TheObject n) (λ o.
-    cond (not (is_index key) && is_length_of o.class (text_of_key key))
+define_own_property convert n key d k = Ask (TheClass n) (λ class.
+    cond (not (is_index key) && is_length_of class (text_of_key key))
     (with_length_value convert d d.value (λ d. Do (Apply n (DefineOwnProperty key d)) k))
     (Do (Apply n (DefineOwnProperty key d)) k))
 
@@ -65,20 +66,20 @@ set_found convert key v receiver found k = Ask (TheSetStep key v receiver found)
 unfoldable pub ordinary_set : NumberConversion → ℕ → Key → Value → (receiver : Value) → (Bool → Act) → Act
 ordinary_set convert n key v receiver k = Ask (TheProperty key n) (λ found. set_found convert key v receiver found k)
 
-abbrev pub set_inherited : NumberConversion → (place : ℕ) → Key → Value → (receiver : Value) → (Bool → Act) → Act
-set_inherited convert place key v receiver k = Ask (TheIntrinsic place) (λ p. ordinary_set convert p key v receiver k)
+abbrev pub set_inherited : NumberConversion → Intrinsic → Key → Value → (receiver : Value) → (Bool → Act) → Act
+set_inherited convert intrinsic key v receiver k = Ask (TheIntrinsic intrinsic) (λ p. ordinary_set convert p key v receiver k)
 
 -- a string's units and `length` are not writable (10.4.3)
 abbrev pub set_on_string : StringProperty → NumberConversion → Text → Key → Value → (Bool → Act) → Act
-set_on_string Inherits convert t key v k = set_inherited convert string_prototype key v (String t) k
+set_on_string Inherits convert t key v k = set_inherited convert StringPrototype key v (String t) k
 set_on_string _ convert t key v k = k false
 
 -- what an assignment to a property of a value comes to: ToObject (7.1.18), then [[Set]] with the value as the receiver
 unfoldable pub set_v : NumberConversion → Value → Key → Value → (Bool → Act) → Act
 set_v convert (Object n) key v k = ordinary_set convert n key v (Object n) k
 set_v convert (String t) key v k = set_on_string (string_property t key) convert t key v k
-set_v convert (Number x) key v k = set_inherited convert number_prototype key v (Number x) k
-set_v convert (Boolean b) key v k = set_inherited convert boolean_prototype key v (Boolean b) k
+set_v convert (Number x) key v k = set_inherited convert NumberPrototype key v (Number x) k
+set_v convert (Boolean b) key v k = set_inherited convert BooleanPrototype key v (Boolean b) k
 set_v convert _ key v k = raise NoProperties
 
 -- Set with Throw (7.3.4)

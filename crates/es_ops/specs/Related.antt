@@ -1,5 +1,5 @@
 -- Two acts that are the same but for the numbers of things, where R says which numbers name the same thing.
-use Rattle.std.specs.Prelude.{◌≡◌, ℕ, ◌<◌, Bool, ℤ, List, [], ◌∷◌, Option, Some, None}
+use Rattle.std.specs.Prelude.{◌≡◌, ℕ, Bool, ℤ, List, [], ◌∷◌, Option, Some, None, IfSome}
 use Rattle.js_value.specs.Number.{IsNumber}
 use Rattle.js_value.specs.Value.{Value, Undefined, Null, Boolean, Number, String, Object, Text}
 use Rattle.js_value.specs.Store.{Content, Data, Accessor, Property, PromiseState, Pending, Fulfilled, Rejected, Reaction, Class, Ordinary, Array, ScriptFunction, BuiltInFunction, ResolveFunction, RejectFunction, Error, Promise, ObjectRecord, CellRecord, Thing, AnObject, ACell, AMark}
@@ -7,7 +7,7 @@ use Rattle.js_value.specs.Order.{IsString, IsKey}
 use Rattle.js_value.specs.WellFormed.{IsThingOrderly}
 use Rattle.js_value.specs.Job.{Job, FulfilJob, RejectJob, ThenableJob}
 use Rattle.es_ops.specs.InternalMethods.{PropertyDescriptor, Method, DefineOwnProperty, Delete, PreventExtensions, SetPrototypeOf, Freeze, SetStep, RefusesSet, CallsSetter, DefinesOn}
-use Rattle.es_ops.specs.Events.{Question, Reply, TheObject, TheCell, TheMark, TheProperty, TheSetStep, TheIntrinsic, TheInput, Deed, Answer, Make, Apply, Attach, SetCell, SetMark, Settle, AddReaction, Enqueue, Dequeue, AddRejection, RemoveRejection, MakeText, Write, Take}
+use Rattle.es_ops.specs.Events.{Question, Reply, TheClass, ThePrototype, IsExtensible, TheOwnProperty, TheOwnKey, IsOnChain, TheSort, TheCell, TheMark, TheProperty, TheSetStep, TheIntrinsic, TheInput, Deed, Answer, Make, Apply, Attach, SetCell, SetMark, Settle, TakeReaction, AddReaction, Enqueue, Dequeue, AddRejection, RemoveRejection, MakeText, Write, Take}
 use Rattle.es_ops.specs.Ledger.{Stop}
 use Rattle.es_ops.specs.Act.{Act, Give, Throw, Halt, Turn, Ask, Do, Call, Try, Completion, NormalCompletion, ThrowCompletion}
 
@@ -115,27 +115,35 @@ pub data BothSetStep (R : Naming) : SetStep → SetStep → Type 0 where
   BothCalls : {f g : Value} → BothValue R f g → BothSetStep R (CallsSetter f) (CallsSetter g)
   BothDefines : {m n : ℕ} {d e : PropertyDescriptor} → R m n → BothDescriptor R d e → BothSetStep R (DefinesOn m d) (DefinesOn n e)
 
--- the things that the realm has for certain
-abbrev pub intrinsics : ℕ
-intrinsics = 13
-
 abbrev pub BothQuestion : Naming → Question → Question → Type 0
-BothQuestion R (TheObject m) (TheObject n) = R m n
+BothQuestion R (TheClass m) (TheClass n) = R m n
+BothQuestion R (ThePrototype m) (ThePrototype n) = R m n
+BothQuestion R (IsExtensible m) (IsExtensible n) = R m n
+BothQuestion R (TheOwnProperty key m) (TheOwnProperty other n) = (key ≡ other) × R m n
+BothQuestion R (TheOwnKey at m) (TheOwnKey place n) = (at ≡ place) × R m n
+BothQuestion R (IsOnChain p m) (IsOnChain q n) = R p q × R m n
 BothQuestion R (TheCell m) (TheCell n) = R m n
 BothQuestion R (TheMark m) (TheMark n) = R m n
 BothQuestion R (TheProperty key m) (TheProperty other n) = (key ≡ other) × R m n
 BothQuestion R (TheSetStep key v receiver p) (TheSetStep other w taker q) = (key ≡ other) × BothValue R v w × BothValue R receiver taker × BothOption (BothProperty R) p q
-BothQuestion R (TheIntrinsic at) (TheIntrinsic place) = (at ≡ place) × (at < intrinsics)
+BothQuestion R (TheIntrinsic i) (TheIntrinsic j) = i ≡ j
+BothQuestion R (TheSort x f) (TheSort y g) = (x ≡ y) × (f ≡ g)
 BothQuestion R TheInput TheInput = Unit {0}
 BothQuestion R _ _ = ⊥
 
 abbrev pub BothReply : Naming → (q p : Question) → Reply q → Reply p → Type 0
-BothReply R (TheObject m) (TheObject n) o p = BothRecord R o p
+BothReply R (TheClass m) (TheClass n) c d = BothClass R c d
+BothReply R (ThePrototype m) (ThePrototype n) p q = BothOption R p q
+BothReply R (IsExtensible m) (IsExtensible n) a b = a ≡ b
+BothReply R (TheOwnProperty key m) (TheOwnProperty other n) p q = BothOption (BothProperty R) p q
+BothReply R (TheOwnKey at m) (TheOwnKey place n) i j = (i ≡ j) × IfSome i IsKey
+BothReply R (IsOnChain p m) (IsOnChain q n) a b = a ≡ b
 BothReply R (TheCell m) (TheCell n) c d = BothCellRecord R c d
 BothReply R (TheMark m) (TheMark n) b c = b ≡ c
 BothReply R (TheProperty key m) (TheProperty other n) p q = BothOption (BothProperty R) p q
 BothReply R (TheSetStep key v receiver p) (TheSetStep other w taker q) s t = BothSetStep R s t
-BothReply R (TheIntrinsic at) (TheIntrinsic place) m n = R m n
+BothReply R (TheIntrinsic i) (TheIntrinsic j) m n = R m n
+BothReply R (TheSort x f) (TheSort y g) a b = a ≡ b
 BothReply R TheInput TheInput i j = i ≡ j
 BothReply R _ _ r s = ⊥
 
@@ -146,6 +154,7 @@ BothDeed R (Attach f p a) (Attach g q b) = R f g × R p q × (a ≡ b)
 BothDeed R (SetCell m v) (SetCell n w) = R m n × BothValue R v w
 BothDeed R (SetMark m) (SetMark n) = R m n
 BothDeed R (Settle m s) (Settle n t) = R m n × BothState R s t
+BothDeed R (TakeReaction m) (TakeReaction n) = R m n
 BothDeed R (AddReaction m r) (AddReaction n s) = R m n × BothReaction R r s
 BothDeed R (Enqueue i) (Enqueue j) = BothJob R i j
 BothDeed R Dequeue Dequeue = Unit {0}
@@ -160,7 +169,8 @@ BothDeed R _ _ = ⊥
 abbrev pub BothAnswer : Naming → (d e : Deed) → Answer d → Answer e → Type 0
 BothAnswer R (Make t) (Make u) m n = R m n
 BothAnswer R (Apply m f) (Apply n g) a b = a ≡ b
-BothAnswer R (Settle m s) (Settle n t) a b = BothOption (BothList (BothReaction R)) a b
+BothAnswer R (Settle m s) (Settle n t) a b = a ≡ b
+BothAnswer R (TakeReaction m) (TakeReaction n) a b = BothOption (BothReaction R) a b
 BothAnswer R Dequeue Dequeue i j = BothOption (BothJob R) i j
 BothAnswer R _ _ a b = Unit {0}
 

@@ -2,11 +2,12 @@
 -- things that both have stand in pairs, and each thing that is made adds one.
 use Rattle.std.specs.Prelude.{◌≡◌, ℕ, ◌<◌, ◌≤◌, List, [], ◌∷◌, length, Option, get_or, slice_get, ◌⊎◌}
 use Rattle.js_value.specs.Value.{Value}
-use Rattle.es_ops.specs.State.{World, State, ModuleState}
+use Rattle.es_ops.specs.Intrinsics.{Intrinsic, place_of}
+use Rattle.es_ops.specs.State.{World, State, ModuleState, NotEvaluated, SetUp, Evaluated, Preloaded}
 use Rattle.es_ops.specs.Ledger.{Event, Happens, Stops}
 use Rattle.es_ops.specs.Act.{Act, Ran, Ends, Halts, Calls}
 use Rattle.es_ops.specs.Laws.{IsWorldWellFormed}
-use Rattle.es_ops.specs.Related.{Naming, BothOption, BothList, BothValue, BothThing, BothJob, BothCompletion, Related, IsOneToOne, intrinsics}
+use Rattle.es_ops.specs.Related.{Naming, BothOption, BothList, BothValue, BothThing, BothJob, BothCompletion, Related, IsOneToOne}
 
 abbrev pub Pairs : Type 0
 Pairs = List (ℕ × ℕ)
@@ -22,15 +23,17 @@ Extends ps qs = (m n : ℕ) → named ps m n → named qs m n
 abbrev pub Kept : Pairs → Act → Act → Type 0
 Kept ps a b = (qs : Pairs) → Extends ps qs → IsOneToOne (named qs) → Related (named qs) a b
 
-pub record BothModule (R : Naming) (m n : ModuleState) : Type 0 where
-  pub status : m.status ≡ n.status
-  pub cells : BothList R m.cells n.cells
+pub data BothModule (R : Naming) : ModuleState → ModuleState → Type 0 where
+  BothNotEvaluated : BothModule R NotEvaluated NotEvaluated
+  BothSetUp : {cs ds : List ℕ} → BothList R cs ds → BothModule R (SetUp cs) (SetUp ds)
+  BothEvaluated : {cs ds : List ℕ} → BothList R cs ds → BothModule R (Evaluated cs) (Evaluated ds)
+  BothPreloaded : {cs ds : List ℕ} → BothList R cs ds → BothModule R (Preloaded cs) (Preloaded ds)
 
 pub record BothWorld (ps : Pairs) (w v : World) : Type 0 where
   pub one_to_one : IsOneToOne (named ps)
   pub stand : (m n : ℕ) → named ps m n → (m < length w.store) × (n < length v.store)
   pub things : (m n : ℕ) → named ps m n → BothOption (BothThing (named ps)) (slice_get w.store m) (slice_get v.store n)
-  pub realm : (at : ℕ) → at < intrinsics → named ps (get_or w.realm at 0) (get_or v.realm at 0)
+  pub realm : (i : Intrinsic) → named ps (get_or w.realm (place_of i) 0) (get_or v.realm (place_of i) 0)
   pub names : w.names ≡ v.names
   pub used : w.ledger.used ≡ v.ledger.used
   pub room : w.ledger.room ≡ v.ledger.room
@@ -40,6 +43,7 @@ pub record BothWorld (ps : Pairs) (w v : World) : Type 0 where
   pub jobs : BothList (BothJob (named ps)) w.jobs v.jobs
   pub rejections : BothList (named ps) w.rejections v.rejections
   pub modules : BothList (BothModule (named ps)) w.modules v.modules
+  pub functions : w.functions ≡ v.functions
   pub trace : w.trace ≡ v.trace
   pub input : w.input ≡ v.input
 

@@ -7,15 +7,28 @@ use Rattle.js_value.specs.declared.counts.Room.{Room}
 
 -- ---- modules
 
-pub data ModuleStatus : Type 0 where
-  NotEvaluated : ModuleStatus
-  Evaluated : ModuleStatus
-  Preloaded : ModuleStatus
+-- A module that isn't evaluated, one whose top-level bindings are made, and one whose body has run or was run before the
+-- image was written, which keeps the cells of its exports alone.
+pub data ModuleState : Type 0 where
+  NotEvaluated : ModuleState
+  SetUp : (cells : List ℕ) → ModuleState
+  Evaluated : (exports : List ℕ) → ModuleState
+  Preloaded : (exports : List ℕ) → ModuleState
 
--- a module's status, and the cells of its top-level bindings once they are made
-pub record ModuleState : Type 0 where
-  pub status : ModuleStatus
-  pub cells : List ℕ
+abbrev pub cells_of : ModuleState → List ℕ
+cells_of NotEvaluated = []
+cells_of (SetUp cells) = cells
+cells_of (Evaluated exports) = exports
+cells_of (Preloaded exports) = exports
+
+-- ---- functions
+
+-- What a script function is, by its code: an arrow, a method or an accessor has no [[Construct]] (ECMA-262 10.2), a plain
+-- function has both, and a class's constructor is not called without `new`.
+pub data FunctionSort : Type 0 where
+  OnlyCalled : FunctionSort
+  CalledAndConstructed : FunctionSort
+  OnlyConstructed : FunctionSort
 
 -- ---- the outside
 
@@ -69,6 +82,7 @@ pub record World : Type 0 where
   pub jobs : List Job  -- the first one runs first
   pub rejections : List ℕ  -- promises that were rejected while they had no reaction
   pub modules : List ModuleState
+  pub functions : List (List FunctionSort)  -- by module and function number; no operation changes it
   pub trace : List TraceEvent
   pub input : Option (List ℕ)  -- the bytes that are left; none where there is no host
 
