@@ -17,8 +17,7 @@ pub use frame::Frame;
 pub use instruction::{Op, decode, encode, length};
 pub use list::CodeList;
 pub use records::{
-    CodeCapture, CodeExport, CodeHoist, CodeImport, FunctionCode, ModuleCode, Modules, NameText,
-    Plan, Target,
+    CodeCapture, CodeExport, CodeHoist, CodeImport, FunctionCode, ModuleCode, Modules, Plan, Target,
 };
 pub use renaming::rename;
 pub use validity::valid;

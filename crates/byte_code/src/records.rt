@@ -1,51 +1,9 @@
 //! Compiled modules and functions, as containers spell them, and the plan of a run.
 #![tactic(auto)]
 
-ghost use Rattle.std.specs.Prelude.{◌≡◌, ℕ, List, [], ◌∷◌, ◌++◌, OnOk, OnErr};
-
 use crate::bytes::CodeBytes;
 use crate::list::CodeList;
-use std::alloc::{AllocError, Global};
-use std::marker::Model;
-
-/// A name's text in UTF-16 units, which a contract sees as a list of numbers.
-#[derive(Drop)]
-pub struct NameText {
-    units: Vec<u16>,
-}
-
-impl Model for NameText {
-    ghost Value = { List ℕ };
-
-    ghost view = { λ n. n.units.items };
-}
-
-impl NameText {
-    /// The empty text, which keeps the allocator and takes no memory.
-    pub fn new(alloc: Global) -> Self
-        ensures { result ≡ [] }
-    {
-        NameText {
-            units: Vec::new(alloc),
-        }
-    }
-
-    /// Puts a unit at the end. The one error is want of memory, and leaves the text as it was.
-    pub fn push(&mut self, unit: u16) -> Result<(), AllocError>
-        ensures ok { OnOk result (self.new ≡ self.old ++ unit ∷ []) }
-        ensures err { OnErr result (self.new ≡ self.old) }
-    {
-        self.units.push(unit)?;
-        Ok(())
-    }
-
-    /// The units in order.
-    pub fn as_slice(&self) -> &[u16]
-        ensures { result.now ≡ self.now }
-    {
-        self.units.as_slice()
-    }
-}
+use js_value::Units;
 
 /// A cell that a function captures: one of the making function's outer list, or the one in a place
 /// of that function.
@@ -114,13 +72,13 @@ pub struct ModuleCode {
     pub functions: CodeList<FunctionCode>,
     /// The texts by which the module's own numbers of names go, or none where these go by the names
     /// of a table of modules.
-    pub names: CodeList<NameText>,
+    pub names: CodeList<Units>,
 }
 
 /// A table of modules, numbered from 0, whose numbers of names go by the table's names.
 #[derive(Drop)]
 pub struct Modules {
-    pub names: CodeList<NameText>,
+    pub names: CodeList<Units>,
     pub modules: CodeList<ModuleCode>,
 }
 

@@ -5,7 +5,7 @@ ghost use Rattle.js_lexer.specs.Reads.{Escapes, Reads, escape, fed, piece, strin
 
 use crate::characters::Characters;
 use crate::escapes::{Escape, take_escape};
-use crate::words::{push_character, push_code_point};
+use crate::words::push_character;
 use es_model::LexFault;
 use js_value::Units;
 use std::alloc::Global;
@@ -84,7 +84,7 @@ fn push_escape(text: &mut Units, at: u32, left: &mut Characters) -> Result<(), L
     match take_escape(left) {
         Some(Escape::Continuation) => Ok(()),
         Some(Escape::CodePoint(code_point)) => {
-            push_code_point(text, code_point)?;
+            text.push_code_point(code_point)?;
             Ok(())
         }
         None => Err(LexFault::BadEscape(at)),

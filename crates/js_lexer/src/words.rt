@@ -50,20 +50,7 @@ fn word(words: &Words, text: Units) -> TokenKind
 pub fn push_character(text: &mut Units, c: char) -> Result<(), AllocError>
     ensures { OnOk result (text.new ≡ text.old ++ utf16 c) }
 {
-    push_code_point(text, c as u32)
-}
-
-/// Adds the units of a code point (ECMA-262, 11.1.1).
-pub fn push_code_point(text: &mut Units, code_point: u32) -> Result<(), AllocError>
-    requires { code_point < 0x200000 }
-    ensures { OnOk result (text.new ≡ text.old ++ utf16 code_point) }
-{
-    if code_point < 0x10000 {
-        return text.push(code_point as u16);
-    }
-    let above = code_point - 0x10000;
-    text.push((0xD800 + above / 0x400) as u16)?;
-    text.push((0xDC00 + above % 0x400) as u16)
+    text.push_code_point(c as u32)
 }
 
 /// Takes a sign, after its first character, which stands at `at`.

@@ -46,6 +46,25 @@ impl Units {
         Ok(())
     }
 
+    /// Adds the units of a code point at the end (ECMA-262, 11.1.1): one, or a surrogate pair from 0x10000 on.
+    /// Where memory runs out the text is as before, and no half of a pair stands.
+    pub fn push_code_point(&mut self, code_point: u32) -> Result<(), AllocError>
+        requires { code_point < 0x200000 }
+        ensures ok { OnOk result (self.new ≡ self.old ++ utf16 code_point) }
+        ensures err { OnErr result (self.new ≡ self.old) }
+    {
+        if code_point < 0x10000 {
+            return self.push(code_point as u16);
+        }
+        let above = code_point - 0x10000;
+        let pair = [
+            (0xD800 + above / 0x400) as u16,
+            (0xDC00 + above % 0x400) as u16,
+        ];
+        self.items.extend_from_slice(&pair)?;
+        Ok(())
+    }
+
     /// The units, from the first on.
     pub fn as_slice(&self) -> &[u16]
         ensures { result.now ≡ self.now }
@@ -75,18 +94,5 @@ impl Units {
             rest = after;
         }
         Ok(text)
-    }
-
-    // The units of a code point (ECMA-262, 11.1.1).
-    fn push_code_point(&mut self, code_point: u32) -> Result<(), AllocError>
-        requires { code_point < 0x200000 }
-        ensures { OnOk result (self.new ≡ self.old ++ utf16 code_point) }
-    {
-        if code_point < 0x10000 {
-            return self.push(code_point as u16);
-        }
-        let above = code_point - 0x10000;
-        self.push((0xD800 + above / 0x400) as u16)?;
-        self.push((0xDC00 + above % 0x400) as u16)
     }
 }

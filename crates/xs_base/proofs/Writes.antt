@@ -1,7 +1,7 @@
 -- Writes one after another.
 use Rattle.std.proofs.Common.{◌≡◌, ◌∙◌, ◌++◌, ℕ, List, [], take, drop, Option, Result, Ok, Err, ap, sym, refl, append_assoc, append-nil, take-append-drop, subst}
-use Rattle.std.specs.Io.KnownBytes.{Appends}
-use Rattle.std.proofs.KnownBytes.{Appends-nil, Appends-trans}
+use Rattle.std.specs.Io.KnownBytes.{Appends, Keeps}
+use Rattle.std.proofs.KnownBytes.{Appends-nil, Appends-trans, Appends-kept}
 use Rattle.xs_base.specs.Outside.{Sent, SentInPart, Receives}
 
 pub Sent-none : (old : Option (List ℕ)) (bytes : List ℕ) → Sent old old bytes bytes
@@ -17,6 +17,10 @@ Sent-more old mid new bytes rest part left s e a = record {
   whole = s.whole ∙ ap (λ r. s.front ++ r) e ∙ sym (append_assoc s.front part left);
   received = Appends-trans old mid new s.front part s.received a;
 }
+
+-- what takes nothing
+pub Sent-kept : (old mid new : Option (List ℕ)) (bytes rest : List ℕ) → Sent old mid bytes rest → Keeps mid new → Sent old new bytes rest
+Sent-kept old mid new bytes rest s k = record { front = s.front; whole = s.whole; received = Appends-kept old mid new s.front s.received k }
 
 pub Sent-piece : (old mid new : Option (List ℕ)) (bytes rest : List ℕ) (n : ℕ) → Sent old mid bytes rest → Appends mid new (take n rest) → Sent old new bytes (drop n rest)
 Sent-piece old mid new bytes rest n s a = Sent-more old mid new bytes rest (take n rest) (drop n rest) s (sym (take-append-drop n rest)) a

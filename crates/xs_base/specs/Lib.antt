@@ -8,4 +8,6 @@ pub mod Table
 pub mod Packed
 pub mod TableInside
 pub mod MemFiles
+pub mod Reading
+pub mod Writing
 pub mod RealFiles

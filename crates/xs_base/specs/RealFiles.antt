@@ -1,19 +1,25 @@
--- The counts that files of the runtime keep.
-use Rattle.std.specs.Prelude.{ℕ, Result, Ok, Err}
+-- Files of a runtime: their answers and the counts that are kept of them.
+use Rattle.std.specs.Prelude.{ℕ, List, length, nat_le, if◌then◌else◌, Result, Ok, Err}
 use Rattle.xs_base.specs.declared.files.FileFault.{FileFault}
 use Rattle.xs_base.specs.declared.files.FileFault.TheVariants.{Absent, Failed, Memory}
 use Rattle.xs_base.specs.Failing.{counted}
 
--- How often a call failed or found nothing, and how often a name held nothing.
-pub record FileCounts : Type 0 where
+-- What holds the files, how often a call failed or found nothing, and how often a name held nothing.
+pub record FilesOf (D : Type 0) : Type 0 where
+  pub disk : D
   pub faults : ℕ
   pub missed : ℕ
 
-abbrev pub counts_after_fault : FileCounts → FileFault → FileCounts
-counts_after_fault counts Absent = record { faults = counted counts.faults; missed = counted counts.missed }
-counts_after_fault counts Failed = record counts { faults = counted counts.faults }
-counts_after_fault counts Memory = counts
+-- The answer to a read, by what was read: a file that is too long is a fault.
+abbrev pub answer_of : Result (List ℕ) FileFault → Result (List ℕ) FileFault
+answer_of (Ok bytes) = if nat_le (length bytes) 268435456 then Ok bytes else Err Failed
+answer_of (Err fault) = Err fault
 
-abbrev pub counts_after : {T : Type 0} → FileCounts → Result T FileFault → FileCounts
-counts_after counts (Ok value) = counts
-counts_after counts (Err fault) = counts_after_fault counts fault
+abbrev pub counts_after_fault : {D : Type 0} → FilesOf D → FileFault → FilesOf D
+counts_after_fault files Absent = record files { faults = counted files.faults; missed = counted files.missed }
+counts_after_fault files Failed = record files { faults = counted files.faults }
+counts_after_fault files Memory = files
+
+abbrev pub counts_after : {D T : Type 0} → FilesOf D → Result T FileFault → FilesOf D
+counts_after files (Ok value) = files
+counts_after files (Err fault) = counts_after_fault files fault

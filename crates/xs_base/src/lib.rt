@@ -1,6 +1,7 @@
 //! The outside: files, an input read by lines, and sinks, each with a count of its faults.
 #![tactic(auto)]
 
+mod disk;
 mod extent;
 mod fails;
 mod file_table;
@@ -15,6 +16,7 @@ mod real_lines;
 mod real_sink;
 mod sink;
 
+pub use disk::Disk;
 pub use fails::{Fail, Fails};
 pub use files::{FileBytes, FileFault, Files};
 pub use lines::{LineBuffer, Lines, ReadFault};

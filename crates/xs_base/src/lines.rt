@@ -1,4 +1,4 @@
-ghost use Rattle.std.specs.Prelude.{◌≡◌, ◌≤◌, ◌<◌, ◌++◌, ◌∷◌, [], ℕ, List, length, true, Option, IfOk, vec_len, vec_capacity};
+ghost use Rattle.std.specs.Prelude.{◌≡◌, ◌≢◌, ◌==◌, ◌≤◌, ◌<◌, ◌++◌, ◌∷◌, [], ℕ, List, length, true, Option, Ok, IfOk, vec_len, vec_capacity};
 ghost use Rattle.xs_base.specs.Outside.{HasCause};
 ghost use Rattle.xs_base.specs.Line.{GivesLine, IsLine};
 
@@ -44,6 +44,12 @@ impl LineBuffer {
         &self.bytes
     }
 
+    pub(crate) fn is_full(&self) -> bool
+        ensures { result ≡ (length self.now == 65535) }
+    {
+        self.bytes.len() == MOST
+    }
+
     pub(crate) fn clear(&mut self)
         ensures { self.new ≡ [] }
     {
@@ -78,10 +84,11 @@ pub trait Lines {
     ghost faults: { Self → ℕ };
 
     /// Takes exactly one line, leaves its bytes in `into` and answers true; or takes nothing and answers
-    /// false at the end. `ReadFault` comes only where `faults` rose, and nothing is taken then.
-    /// Takes no memory.
+    /// false at the end. `ReadFault` comes only where `faults` rose, and nothing is taken then. Where no
+    /// line is given, `into` stays as it was. Takes no memory.
     fn line(&mut self, into: &mut LineBuffer) -> Result<bool, ReadFault>
         ensures line { GivesLine (left self.old) (left self.new) result into.new }
         ensures shape { result ≡ Ok true → IsLine into.new }
+        ensures buffer { result ≢ Ok true → into.new ≡ into.old }
         ensures cause { HasCause (faults self.old) (faults self.new) result };
 }

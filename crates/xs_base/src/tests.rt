@@ -3,7 +3,7 @@ use crate::{
     MemSink, ReadFault, RealFiles, RealLines, RealSink, Sink, WriteFault,
 };
 use std::alloc::AllocError;
-use std::io::{ErrorKind, Read, Write};
+use std::io::{BufWriter, ErrorKind, Read, Write};
 use std::test::Fail;
 use std::{fs, io};
 
@@ -159,38 +159,79 @@ fn sink_over_a_writer(rt: HostRuntime) {
     assert_eq!(rt; sink.write(b""), Ok(()));
 }
 
+// What a buffer holds is known to be written only where it was handed on.
+#[test]
+fn sink_flushes_a_buffer(rt: HostRuntime) -> Result<(), Fail> {
+    let mut sink = RealSink::new(BufWriter::new(rt.alloc(), Target { room: 5 })?);
+    assert_eq!(rt; sink.write(b"abc"), Ok(()));
+    assert_eq!(rt; sink.write(b"def"), Err(WriteFault));
+    Ok(())
+}
+
+// The fault in the middle of the second line loses nothing of it.
 #[test]
 fn lines_over_a_reader(rt: HostRuntime) -> Result<(), Fail> {
-    let mut lines = RealLines::new(Source {
+    let source = Source {
         bytes: b"a\nbc",
         at: 0,
         fails: 3,
         faults: 0,
-    });
+    };
+    let mut lines = RealLines::new(rt.alloc(), source)?;
     let mut line = LineBuffer::new(rt.alloc())?;
     assert_eq!(rt; lines.line(&mut line), Ok(true));
     assert_eq!(rt; line.bytes(), b"a".as_slice());
     assert_eq!(rt; lines.line(&mut line), Err(ReadFault));
+    assert_eq!(rt; line.bytes(), b"a".as_slice());
     assert_eq!(rt; lines.line(&mut line), Ok(true));
-    assert_eq!(rt; line.bytes(), b"c".as_slice());
+    assert_eq!(rt; line.bytes(), b"bc".as_slice());
     assert_eq!(rt; lines.line(&mut line), Ok(false));
     Ok(())
 }
 
+/// The fault of a read, or how many bytes it gave.
+fn read(rt: &HostRuntime, name: &str) -> Result<usize, FileFault> {
+    let bytes = RealFiles::new(rt).read(rt.alloc(), name)?;
+    Ok(bytes.as_slice().len())
+}
+
+/// Whether the bytes are written, stand on the disk, and are read again.
+fn is_kept(rt: &HostRuntime, name: &str, bytes: &[u8]) -> Result<bool, Fail> {
+    let mut files = RealFiles::new(rt);
+    let written = files.write(name, bytes).is_ok();
+    let stands = fs::read(rt, name)?.as_slice() == bytes;
+    let given = files.read(rt.alloc(), name)?.as_slice() == bytes;
+    fs::remove_file(rt, name)?;
+    Ok(written && stands && given)
+}
+
 #[test]
 fn files_of_the_runtime(rt: HostRuntime) -> Result<(), Fail> {
-    let mut files = RealFiles::new(&rt);
-    assert_eq!(rt; files.write("xs_base.test", b"\x00\xFF"), Ok(()));
-    assert_eq!(rt;
-        files.read(rt.alloc(), "xs_base.test")?.as_slice(),
-        [0, 255].as_slice()
-    );
-    fs::remove_file(&rt, "xs_base.test")?;
-    assert_eq!(rt;
-        files.read(rt.alloc(), "xs_base.test").err(),
-        Some(FileFault::Absent)
-    );
-    assert_eq!(rt; files.read(rt.alloc(), ".").err(), Some(FileFault::Failed));
-    assert_eq!(rt; files.write(".", b""), Err(FileFault::Failed));
+    assert!(rt; is_kept(&rt, "xs_base.test", b"\x00\xFF\n")?);
+    assert!(rt; is_kept(&rt, "xs_base.none", b"")?);
+    assert!(rt; is_kept(&rt, " xs base \u{E4}\u{4E8C} .test ", &[7; 9000])?);
     Ok(())
+}
+
+#[test]
+fn files_that_are_not_read(rt: HostRuntime) {
+    assert_eq!(rt; read(&rt, "xs_base.gone"), Err(FileFault::Absent));
+    assert_eq!(rt; read(&rt, ""), Err(FileFault::Absent));
+    assert_eq!(rt; read(&rt, "."), Err(FileFault::Failed));
+    assert_eq!(rt; read(&rt, "/dev/null/file"), Err(FileFault::Failed));
+    assert_eq!(rt; read(&rt, "/proc/self/mem"), Err(FileFault::Failed));
+    assert_eq!(rt; read(&rt, "/dev/zero"), Err(FileFault::Failed));
+}
+
+#[test]
+fn files_that_are_not_written(rt: HostRuntime) {
+    let mut files = RealFiles::new(&rt);
+    assert_eq!(rt; files.write(".", b"a"), Err(FileFault::Failed));
+    assert_eq!(rt;
+        files.write("xs_base.gone/file", b"a"),
+        Err(FileFault::Failed)
+    );
+    assert_eq!(rt; read(&rt, "xs_base.gone/file"), Err(FileFault::Absent));
+    assert_eq!(rt; files.write("/dev/full", b"a"), Err(FileFault::Failed));
+    assert_eq!(rt; files.write("/dev/full", b""), Ok(()));
 }

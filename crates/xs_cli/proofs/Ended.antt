@@ -173,5 +173,5 @@ pub usage_exactly : (words : List Word) (before after : Outside) (e : End) → E
 usage_exactly words before after e h = table_usage words before after e h.cause
 
 pub line_told : {T E : Type 0} (old new : Option (List ℕ)) (before now : ℕ) (r : Result T E) (line : List ℕ) → Receives old new r line → HasCause before now r → LineTold old new before now line
-line_told old new before now (Ok x) line r c = record { told = λ _. r }
-line_told old new before now (Err e) line r c = record { told = λ f. absurd (f c.failed) }
+line_told old new before now (Ok x) line r c = record { told = λ _. r; part = ([], record { front = line; whole = sym (append-nil line); received = r }) }
+line_told old new before now (Err e) line r c = record { told = λ f. absurd (f c.failed); part = r }

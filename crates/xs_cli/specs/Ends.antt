@@ -86,9 +86,10 @@ line_of words end.FileFailed = codes "file " ++ name_of words ++ 10 ∷ []
 line_of words end.WriteFailed = codes "write\n"
 line_of words end.Memory = codes "no memory\n"
 
--- The line was written, unless a fault of `err` came.
+-- The line was written, unless a fault of `err` came; then a front of it was.
 pub record LineTold (old new : Option (List ℕ)) (before now : ℕ) (line : List ℕ) : Type 0 where
   pub told : (Rose before now → ⊥) → Appends old new line
+  pub part : SentInPart old new line
 
 -- The status and the bytes are the answer's, at contents that are those told, where they are.
 pub record IsAnswered (words : List Word) (before after : Outside) (result : ℕ) : Type 0 where

@@ -6,4 +6,5 @@ pub mod Line
 pub mod Steps
 pub mod Answer
 pub mod Ends
+pub mod Started
 pub mod Prints

@@ -33,7 +33,7 @@ fn names(alloc: Global, texts: &[Units]) -> Result<Texts, AllocError>
     ensures { IfOk result (λ names. names ≡ names_of texts.now) }
 {
     let mut names = Texts::new(alloc);
-    names.push(copied(alloc, MAIN)?)?;
+    names.push(Units::from_units(alloc, MAIN)?)?;
     for text in texts {
         add_name(alloc, &mut names, text.as_slice())?;
     }
@@ -47,18 +47,8 @@ fn add_name(alloc: Global, names: &mut Texts, text: &[u16]) -> Result<(), AllocE
     if place(names.as_slice(), text).is_some() {
         return Ok(());
     }
-    names.push(copied(alloc, text)?)?;
+    names.push(Units::from_units(alloc, text)?)?;
     Ok(())
-}
-
-fn copied(alloc: Global, units: &[u16]) -> Result<Units, AllocError>
-    ensures { IfOk result (λ text. text ≡ units.now) }
-{
-    let mut text = Units::new(alloc);
-    for unit in units {
-        text.push(*unit)?;
-    }
-    Ok(text)
 }
 
 /// The number of a text among the names, from 1. Each text that is asked for is one of them.

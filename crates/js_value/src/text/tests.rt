@@ -20,11 +20,37 @@ fn a_text_grows(rt: HostRuntime) -> Result<(), Fail> {
 }
 
 #[test]
+fn a_text_grows_by_code_points(rt: HostRuntime) -> Result<(), Fail> {
+    let mut text = Units::new(rt.alloc());
+    text.push_code_point(0)?;
+    text.push_code_point(0xFFFF)?;
+    text.push_code_point(0x10000)?;
+    text.push_code_point(0x10FFFF)?;
+    let units = [0, 0xFFFF, 0xD800, 0xDC00, 0xDBFF, 0xDFFF];
+    assert_eq!(rt; text.as_slice(), units.as_slice());
+    Ok(())
+}
+
+#[test]
 fn a_text_of_units(rt: HostRuntime) -> Result<(), Fail> {
     let units = [0x61, 0xD800, 0xFFFF];
     let text = Units::from_units(rt.alloc(), &units)?;
     assert_eq!(rt; text.as_slice(), units.as_slice());
+    let long = [0xDFFF; 3000];
+    let text = Units::from_units(rt.alloc(), &long)?;
+    assert_eq!(rt; text.as_slice(), long.as_slice());
+    let none = Units::from_units(rt.alloc(), &[])?;
+    assert!(rt; none.as_slice().is_empty());
     Ok(())
+}
+
+// No length and no byte is taken for a want of memory.
+#[test]
+fn reads_texts_of_any_length(rt: HostRuntime) -> Result<(), Fail> {
+    reads(&rt, rt.alloc(), &[], &[])?;
+    reads(&rt, rt.alloc(), &[0], &[0])?;
+    reads(&rt, rt.alloc(), &[0x7A; 3000], &[0x7A; 3000])?;
+    reads(&rt, rt.alloc(), &[0xFF; 3000], &[0xFFFD; 3000])
 }
 
 // The Unicode standard, 3.9, has the forms of U+004D, U+0430, U+4E8C and U+10302.

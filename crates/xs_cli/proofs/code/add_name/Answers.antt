@@ -8,5 +8,5 @@ returns-then-is_some c = sym (with_name_old c.args.names.now c.args.text.now (rw
 pub returns : goal.returns
 returns c =
     c.in_ok-push.ensures.ok
-    ∙ ap (λ t. c.args.names.now ++ t ∷ []) c.in_ok-copied.ensures
+    ∙ ap (λ t. c.args.names.now ++ t ∷ []) c.in_ok-from_units.ensures
     ∙ sym (with_name_new c.args.names.now c.args.text.now (rw (c.place.ensures, c.as_slice.ensures) at (sym c.if-is_some.ensures)))

@@ -8,7 +8,7 @@ use Rattle.js_value.proofs.text.Units.from_utf8.Goals as goal
 pub loop-rest-preserved : goal.loop-rest-preserved
 loop-rest-preserved c =
     let some : 0 < length c.loop-rest.rest.now = omega (arith, c.sequence_length.ensures.some, c.sequence_length.ensures.within) in
-    rw (c.in_ok-push_code_point.ensures, c.scalar_value.ensures.value, c.split_at.ensures.front, c.split_at.ensures.back, append_assoc, ← units-split c.loop-rest.rest.now c.sequence_length.result some (sym c.sequence_length.ensures.length)) c.loop-rest.invariant
+    rw (c.in_ok-push_code_point.ensures.ok, c.scalar_value.ensures.value, c.split_at.ensures.front, c.split_at.ensures.back, append_assoc, ← units-split c.loop-rest.rest.now c.sequence_length.result some (sym c.sequence_length.ensures.length)) c.loop-rest.invariant
 
 pub returns : goal.returns
 unfolding units
