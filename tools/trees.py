@@ -1,7 +1,8 @@
 #!/usr/bin/env python3
 """Writes the generated files of es_model's specs/ from the table of the grammar below.
 
-    python3 tools/trees.py      (at the top of the repository)
+    python3 tools/trees.py              (at the top of the repository)
+    python3 tools/trees.py --check      writes nothing, and fails where a file isn't what it would write
 
 Written in crates/es_model/specs: Tree.antt (the pure trees and their size), Codes.antt (that a tree's
 code gives it back), View.antt and ModuleView.antt (what the types of src/ are as pure trees).
@@ -10,6 +11,8 @@ A row is a constructor of the pure trees, the Rust variant that it shows, and it
 order of the Rust type. A field's type is a sort, 'L:' a list of it, 'O:' an option of it, or plain
 data, 'D:' and its type.
 """
+
+import sys
 
 TEXT, BOOL, SEMI, PLACE, INTEGER = 'D:Text', 'D:Bool', 'D:Semi', 'D:ℕ', 'D:ℤ'
 WORD, WORDS, MAYBE_WORD = 'D:Identifier', 'D:List Identifier', 'D:Option Identifier'
@@ -454,7 +457,13 @@ def main():
     view, module_view = view_file()
     # the module's types stand in a file of their own, which the trees' files must not name
     view = '\n'.join(line for line in view.split('\n') if 'declared.items.' not in line)
-    for name, text in [('Tree', tree_file()), ('Codes', codes_file()), ('View', view), ('ModuleView', module_view)]:
+    texts = {'Tree': tree_file(), 'Codes': codes_file(), 'View': view, 'ModuleView': module_view}
+    if sys.argv[1:] == ['--check']:
+        stale = [name for name, text in texts.items() if open(f'{specs}{name}.antt').read() != text]
+        if stale:
+            sys.exit('not what tools/trees.py writes: ' + ', '.join(f'{specs}{name}.antt' for name in stale))
+        return
+    for name, text in texts.items():
         with open(f'{specs}{name}.antt', 'w') as file:
             file.write(text)
 
