@@ -40,3 +40,9 @@ pub mod Headline
 pub mod Starts
 pub mod Example
 mod ReviewRows
+pub mod OperatorsRelated
+pub mod ReferencesRelated
+pub mod CallingRelated
+pub mod Units
+pub mod HostRelated
+pub mod MakingRelated

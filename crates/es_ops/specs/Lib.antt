@@ -13,6 +13,11 @@ pub mod PropertyWrites
 pub mod Bindings
 pub mod Jobs
 pub mod Host
+pub mod Calling
+pub mod Operators
+pub mod References
+pub mod Making
+pub mod HostCalls
 pub mod Laws
 pub mod Operations
 pub mod Related
