@@ -46,3 +46,5 @@ pub mod CallingRelated
 pub mod Units
 pub mod HostRelated
 pub mod MakingRelated
+mod MessageRows
+mod OperatorRows
