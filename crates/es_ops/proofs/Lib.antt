@@ -48,3 +48,6 @@ pub mod HostRelated
 pub mod MakingRelated
 mod MessageRows
 mod OperatorRows
+mod CallRows
+mod MakingRows
+mod ReferenceRows

@@ -491,3 +491,27 @@ attaching is_home = Do (Make (AnObject (constructor_of None Undefined))) (λ f. 
 r62 : thing_after (runs (attaching true) []) 13 ∷ thing_after (runs (attaching false) []) 13 ∷ [] ≡ Some (AnObject (constructor_of (Some 14) (Object 14))) ∷ Some (AnObject (constructor_of None (Object 14))) ∷ []
 unfolding computing constructor_of attaching
 r62 = refl
+
+-- a rejection is taken back before the job is queued, also where the job stops the run
+late : Ran
+late = run calls (promise_then 18 Null Null (λ d. done)) (state_in (record (world_with (record ample { slots = 5 }) promises []) { rejections = 13 ∷ 18 ∷ [] }))
+
+r63 : came late ≡ Stopped (OutOf Slots)
+unfolding computing promise reaction n1 done promises late
+r63 = refl
+
+r64 : (world_after late).rejections ≡ 13 ∷ []
+unfolding computing promise reaction n1 done promises late
+r64 = refl
+
+-- the first of two jobs runs, and the other stays
+two_jobs : Ran
+two_jobs = run calls run_first_job (state_in (record (world_of ps) { jobs = FulfilJob Undefined 13 n1 ∷ FulfilJob Undefined 14 Null ∷ [] }))
+
+r65 : (world_after two_jobs).jobs ≡ FulfilJob Undefined 14 Null ∷ []
+unfolding computing promise n1 ps two_jobs
+r65 = refl
+
+r66 : thing_after two_jobs 13 ≡ Some (promise (Fulfilled n1) [])
+unfolding computing promise n1 ps two_jobs
+r66 = refl
