@@ -39,7 +39,7 @@ pub mod OperationsRelated
 pub mod Headline
 pub mod Starts
 pub mod Example
-mod ReviewRows
+mod EdgeRows
 pub mod OperatorsRelated
 pub mod ReferencesRelated
 pub mod CallingRelated
@@ -51,3 +51,4 @@ mod OperatorRows
 mod CallRows
 mod MakingRows
 mod ReferenceRows
+pub mod CallingLaws

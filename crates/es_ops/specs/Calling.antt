@@ -64,13 +64,14 @@ abbrev pub left : (depth : ℕ) → Ran → Ran
 left depth (Ends c s) = Ends c (record s { depth = depth })
 left depth (Halts stop s) = Halts stop s
 
+abbrev pub body_of : (bodies : Calls) → Calls
+body_of bodies f this arguments target s = returned (run bodies (may_be_entered f target) s) (λ _ s. bodies f this arguments target s)
+
 -- A way of calling by these rules: the test of the function, the unit, the depth, the test of a class, the body.
 unfoldable pub by_rules : (bodies : Calls) → Calls
 by_rules bodies f this arguments target s =
     returned (run bodies (may_be_called f target) s) (λ _ s.
-    spent s.meter s (λ s.
-    left s.depth (entered s (λ s.
-    returned (run bodies (may_be_entered f target) s) (λ _ s. bodies f this arguments target s)))))
+    spent s.meter s (λ s. left s.depth (entered s (body_of bodies f this arguments target))))
 
 -- ---- Construct (7.3.14), and `super(..)` (13.3.7.1)
 
