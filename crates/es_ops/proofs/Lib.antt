@@ -52,3 +52,5 @@ mod CallRows
 mod MakingRows
 mod ReferenceRows
 pub mod CallingLaws
+pub mod OperateRelated
+mod OperateRows
