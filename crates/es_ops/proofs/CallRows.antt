@@ -51,18 +51,18 @@ unfolding computing script things state bodies constructs
 constructors = refl
 
 -- a call runs its body one deeper, and leaves the depth and a unit less
-entered : came (called (Object 13) None 5 7) ∷ came (called (Object 14) (Some (Object 14)) 5 0) ∷ came (called (Object 15) (Some (Object 15)) 1 127) ∷ [] ≡ Gave (Number (pos 8)) ∷ Gave (Number (pos 1)) ∷ Gave (Number (pos 128)) ∷ []
+calls_enter : came (called (Object 13) None 5 7) ∷ came (called (Object 14) (Some (Object 14)) 5 0) ∷ came (called (Object 15) (Some (Object 15)) 1 127) ∷ [] ≡ Gave (Number (pos 8)) ∷ Gave (Number (pos 1)) ∷ Gave (Number (pos 128)) ∷ []
 unfolding computing script things state bodies called
-entered = refl
+calls_enter = refl
 
-left : meter_after (called (Object 13) None 5 7) ∷ depth_after (called (Object 13) None 5 7) ∷ [] ≡ 4 ∷ 7 ∷ []
+calls_leave : meter_after (called (Object 13) None 5 7) ∷ depth_after (called (Object 13) None 5 7) ∷ [] ≡ 4 ∷ 7 ∷ []
 unfolding computing script things state bodies called meter_after depth_after
-left = refl
+calls_leave = refl
 
 -- the unit comes before the depth, and both before the error of a class
-stopped : map came (called (Object 13) None 0 128 ∷ called (Object 13) None 1 128 ∷ called (Object 15) None 0 0 ∷ called (Object 15) None 1 128 ∷ []) ≡ Stopped Budget ∷ Stopped Depth ∷ Stopped Budget ∷ Stopped Depth ∷ []
+calls_stop : map came (called (Object 13) None 0 128 ∷ called (Object 13) None 1 128 ∷ called (Object 15) None 0 0 ∷ called (Object 15) None 1 128 ∷ []) ≡ Stopped Budget ∷ Stopped Depth ∷ Stopped Budget ∷ Stopped Depth ∷ []
 unfolding computing script things state bodies called
-stopped = refl
+calls_stop = refl
 
 stopped_meter : meter_after (called (Object 13) None 1 128) ≡ 0
 unfolding computing script things state bodies called meter_after
