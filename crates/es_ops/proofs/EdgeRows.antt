@@ -165,6 +165,15 @@ lengths_by_built_ins : thing_after (runs (set_or_throw number_expected 13 len (O
 unfolding computing len n1 done lengths error_of
 lengths_by_built_ins = refl
 
+-- the greatest length, and an object where a built-in takes a length
+greatest_length : after_length (Number (pos 4294967295)) ≡ Some (AnObject (array_of [] 4294967295 true))
+unfolding computing len n1 done lengths after_length
+greatest_length = refl
+
+object_as_a_length : thing_after (runs (create_data_property_or_throw 13 len (Object 14) done) lengths) 16 ≡ Some (error_of 6 PrimitiveExpected)
+unfolding computing len n1 done lengths error_of
+object_as_a_length = refl
+
 -- an array as a prototype: its length is found, and the receiver gets its own, unconverted
 array_proto : Bool → List Thing
 array_proto writable = AnObject (ordinary (Some 14) []) ∷ AnObject (array_of [] 5 writable) ∷ []
