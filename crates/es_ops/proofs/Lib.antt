@@ -54,3 +54,4 @@ mod ReferenceRows
 pub mod CallingLaws
 pub mod OperateRelated
 mod OperateRows
+pub mod HostLaws
