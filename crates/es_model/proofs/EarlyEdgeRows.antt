@@ -1,5 +1,5 @@
 -- More worked rows of `early`, at the edges of each rule. A mark in a row's text stands where the rule fails.
-use Rattle.std.specs.Prelude.{◌≡◌, true, false, [], ◌∷◌, codes, pos, Some, None, refl}
+use Rattle.std.specs.Prelude.{◌≡◌, false, [], ◌∷◌, codes, pos, Some, None, refl}
 use Rattle.es_model.specs.declared.kinds.Semi.TheVariants as semi
 use Rattle.es_model.specs.declared.kinds.FunctionKind.TheVariants as f
 use Rattle.es_model.specs.declared.kinds.MemberKind.TheVariants as m
