@@ -36,7 +36,7 @@ pub mod DeedsRelated
 pub mod MethodsRelated
 pub mod AppliesRelated
 pub mod OperationsRelated
-pub mod Headline
+pub mod SameOutput
 pub mod Starts
 pub mod Example
 mod EdgeRows
