@@ -23,3 +23,16 @@ hi_told = refl
 empty_told : told (run 100000000 t.none) ≡ record { status = 0; bytes = [] }
 unfolding run top_level meaning find evaluator cut piece utf8 encoded character_length
 empty_told = refl
+
+-- a call without a unit stops the run
+hi_stopped : told (run 0 hi) ≡ record { status = 5; bytes = codes "stopped: budget\n" }
+unfolding identifier hi run top_level meaning find evaluator cut piece utf8 encoded character_length
+hi_stopped = refl
+
+-- import { print } from "host"; f(print("x")); the callee comes before the arguments
+callee_first : Tree (t.list t.item)
+callee_first = t.more (t.Import (codes "host") (record { taken = identifier 9 (codes "print"); given = identifier 9 (codes "print") } ∷ []) Written) (t.more (t.Plain (t.Value (t.Call (t.Name (identifier 30 (codes "f"))) (t.more (t.Call (t.Name (identifier 32 (codes "print"))) (t.more (t.String (codes "x")) t.none)) t.none)) Written)) t.none)
+
+nothing_written : told (run 100 callee_first) ≡ record { status = 3; bytes = [] }
+unfolding identifier callee_first run top_level meaning find evaluator cut piece utf8 encoded character_length
+nothing_written = refl

@@ -3,6 +3,7 @@
 use Rattle.std.specs.Prelude.{ℕ, zero, suc, ◌+◌, Bool, true, false, List, [], ◌∷◌, ◌++◌, Option, Some, None, nat_lt, codes}
 use Rattle.std.specs.Str.{bytes_eq}
 use Rattle.es_model.specs.Tree.{Text}
+use Rattle.es_ops.specs.Calling.{most_depth}
 use Rattle.es_ops.specs.State.{TraceEvent}
 use Rattle.es_ops.specs.Host.{line_events}
 use Rattle.es_model.specs.Tree as t
@@ -90,9 +91,6 @@ get_value (Some (HostCell function)) = pure (Function function)
 get_value None = ends Unbuilt
 
 -- ---- calls
-
-abbrev pub most_depth : ℕ
-most_depth = 128
 
 -- A unit of the meter is taken before each call, or the run stops (own).
 abbrev pub with_meter : ℕ → State → State

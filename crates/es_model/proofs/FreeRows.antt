@@ -11,7 +11,7 @@ use Rattle.es_model.specs.Tree as t
 use Rattle.es_model.specs.Tree.{Tree}
 use Rattle.es_model.specs.Scopes.{Enclosing, Binding, Top, Inner, Receiver, gather}
 use Rattle.es_model.specs.Functions.{functions, writes_constructor, function_count}
-use Rattle.es_model.specs.FreeNames.{Mention, mentions, free, captured, places, place_of_mention, place_count, this_cell, captures}
+use Rattle.es_model.specs.FreeNames.{global_names, Mention, mentions, free, captured, places, place_of_mention, place_count, this_cell, captures}
 use Rattle.es_model.proofs.Rows.{named_at, pair_of}
 
 -- the places of all mentions, in order
@@ -607,3 +607,71 @@ parent_class_count = refl
 nested_functions_count : function_count (t.more (t.Plain (t.FunctionStatement (t.FunctionOf 0 (Some (named_at 9 (codes "f"))) f.Plain [] (t.BodyStatements (t.more (t.FunctionStatement (t.FunctionOf 15 (Some (named_at 24 (codes "g"))) f.Plain [] (t.BodyStatements (t.more (t.Value (t.Function (t.FunctionOf 30 None f.Arrow [] (t.BodyExpression (t.Number (pos 1))))) semi.Written) t.none)))) t.none))))) t.none) ≡ 4
 unfolding functions writes_constructor
 nested_functions_count = refl
+
+-- ---- at the edges
+
+-- {class d {}}
+abbrev class_in_a_block_text : Tree (t.list t.item)
+class_in_a_block_text = (t.more (t.Plain (t.Block (t.more (t.ClassStatement (t.ClassOf 1 (Some (named_at 7 (codes "d"))) t.absent t.none)) t.none))) t.none)
+
+class_in_a_block : placed class_in_a_block_text ≡ Some (Local 0) ∷ Some (Local 1) ∷ []
+unfolding gather functions writes_constructor mentions free captured places place_of_mention place_count this_cell captures
+class_in_a_block = refl
+
+-- let x; switch (x) {}
+abbrev value_of_a_switch_text : Tree (t.list t.item)
+value_of_a_switch_text = (t.more (t.Plain (t.Declare false (t.more (t.DeclaratorOf (named_at 4 (codes "x")) t.absent) t.none) semi.Written)) (t.more (t.Plain (t.Switch (t.Name (named_at 15 (codes "x"))) t.none)) t.none))
+
+value_of_a_switch : placed value_of_a_switch_text ≡ Some (Outer 0) ∷ Some (Local 0) ∷ Some (Outer 0) ∷ []
+unfolding gather functions writes_constructor mentions free captured places place_of_mention place_count this_cell captures
+value_of_a_switch = refl
+
+-- 1; import {p} from "m"; p;
+abbrev import_behind_a_statement_text : Tree (t.list t.item)
+import_behind_a_statement_text = (t.more (t.Plain (t.Value (t.Number (pos 1)) semi.Written)) (t.more (t.Import (codes "m") ((pair_of (named_at 11 (codes "p")) (named_at 11 (codes "p"))) ∷ []) semi.Written) (t.more (t.Plain (t.Value (t.Name (named_at 24 (codes "p"))) semi.Written)) t.none)))
+
+import_behind_a_statement : placed import_behind_a_statement_text ≡ Some (Import 0) ∷ Some (Import 0) ∷ []
+unfolding gather functions writes_constructor mentions free captured places place_of_mention place_count this_cell captures
+import_behind_a_statement = refl
+
+-- () => this;
+abbrev this_of_an_arrow_text : Tree (t.list t.item)
+this_of_an_arrow_text = (t.more (t.Plain (t.Value (t.Function (t.FunctionOf 0 None f.Arrow [] (t.BodyExpression t.This))) semi.Written)) t.none)
+
+this_of_an_arrow : placed this_of_an_arrow_text ≡ Some (Outer 0) ∷ []
+unfolding gather functions writes_constructor mentions free captured places place_of_mention place_count this_cell captures
+this_of_an_arrow = refl
+
+-- class A {}
+abbrev generated_constructor_text : Tree (t.list t.item)
+generated_constructor_text = (t.more (t.Plain (t.ClassStatement (t.ClassOf 0 (Some (named_at 6 (codes "A"))) t.absent t.none))) t.none)
+
+generated_constructor : placed generated_constructor_text ≡ Some (Outer 0) ∷ Some (Local 0) ∷ []
+unfolding gather functions writes_constructor mentions free captured places place_of_mention place_count this_cell captures
+generated_constructor = refl
+
+-- function f() { let a; } function g() { let b; }
+abbrev sibling_functions_text : Tree (t.list t.item)
+sibling_functions_text = (t.more (t.Plain (t.FunctionStatement (t.FunctionOf 0 (Some (named_at 9 (codes "f"))) f.Plain [] (t.BodyStatements (t.more (t.Declare false (t.more (t.DeclaratorOf (named_at 19 (codes "a")) t.absent) t.none) semi.Written) t.none))))) (t.more (t.Plain (t.FunctionStatement (t.FunctionOf 24 (Some (named_at 33 (codes "g"))) f.Plain [] (t.BodyStatements (t.more (t.Declare false (t.more (t.DeclaratorOf (named_at 43 (codes "b")) t.absent) t.none) semi.Written) t.none))))) t.none))
+
+sibling_functions : placed sibling_functions_text ≡ Some (Outer 0) ∷ Some (Local 0) ∷ Some (Outer 1) ∷ Some (Local 0) ∷ []
+unfolding gather functions writes_constructor mentions free captured places place_of_mention place_count this_cell captures
+sibling_functions = refl
+
+-- the places of the body, and of what is function 1
+this_of_an_arrow_counts : place_count this_of_an_arrow_text 0 ∷ place_count this_of_an_arrow_text 1 ∷ [] ≡ 1 ∷ 0 ∷ []
+unfolding gather functions writes_constructor mentions free captured places place_of_mention place_count this_cell captures
+this_of_an_arrow_counts = refl
+
+-- the places of the body, and of what is function 1
+generated_constructor_counts : place_count generated_constructor_text 0 ∷ place_count generated_constructor_text 1 ∷ [] ≡ 1 ∷ 0 ∷ []
+unfolding gather functions writes_constructor mentions free captured places place_of_mention place_count this_cell captures
+generated_constructor_counts = refl
+
+-- the places of the body, and of what is function 1
+class_in_a_block_counts : place_count class_in_a_block_text 0 ∷ place_count class_in_a_block_text 1 ∷ [] ≡ 2 ∷ 0 ∷ []
+unfolding gather functions writes_constructor mentions free captured places place_of_mention place_count this_cell captures
+class_in_a_block_counts = refl
+
+names_of_the_globals : global_names ≡ codes "undefined" ∷ codes "Object" ∷ codes "Function" ∷ codes "Error" ∷ codes "RangeError" ∷ codes "ReferenceError" ∷ codes "SyntaxError" ∷ codes "TypeError" ∷ codes "Boolean" ∷ codes "Number" ∷ codes "Math" ∷ codes "Promise" ∷ codes "parseInt" ∷ codes "String" ∷ codes "Array" ∷ []
+names_of_the_globals = refl

@@ -36,7 +36,22 @@ pub mod DeedsRelated
 pub mod MethodsRelated
 pub mod AppliesRelated
 pub mod OperationsRelated
-pub mod Headline
+pub mod SameOutput
 pub mod Starts
 pub mod Example
-mod ReviewRows
+mod EdgeRows
+pub mod OperatorsRelated
+pub mod ReferencesRelated
+pub mod CallingRelated
+pub mod Units
+pub mod HostRelated
+pub mod MakingRelated
+mod MessageRows
+mod OperatorRows
+mod CallRows
+mod MakingRows
+mod ReferenceRows
+pub mod CallingLaws
+pub mod OperateRelated
+mod OperateRows
+pub mod HostLaws

@@ -7,10 +7,15 @@ use Rattle.es_ops.specs.Operations.{Operation, act_of}
 use Rattle.es_ops.specs.Related.{Naming, Related, IsOneToOne}
 use Rattle.es_ops.specs.Standing.{Below}
 use Rattle.es_ops.specs.Renaming.{Pairs, named, Extends, BothSides, BothRan, BothCalling}
-use Rattle.es_ops.specs.Handed.{BothOperation, BothRaiseHanded, BothMakeErrorHanded, BothMakeStringHanded, BothToPrimitiveHanded, BothToNumberHanded, BothToStringHanded, BothToPropertyKeyHanded, BothNumberExpectedHanded, BothTextExpectedHanded, BothKeyExpectedHanded, BothIsLooselyEqualHanded, BothIsCallableHanded, BothPropertyValueHanded, BothGetHanded, BothHasPropertyHanded, BothGetVHanded, BothDefinePropertyHanded, BothDefinePropertyOrThrowHanded, BothCreateDataPropertyHanded, BothCreateDataPropertyOrThrowHanded, BothOrdinarySetHanded, BothSetVHanded, BothSetOrThrowHanded, BothPutValueHanded, BothDeletePropertyOrThrowHanded, BothDeleteVHanded, BothMakeCellHanded, BothInitializeCellHanded, BothReadCellHanded, BothWriteCellHanded, BothCopyCellHanded, BothFulfilPromiseHanded, BothRejectPromiseHanded, BothResolvePromiseHanded, BothCreateResolvingFunctionsHanded, BothCallResolveFunctionHanded, BothCallRejectFunctionHanded, BothMakePromiseHanded, BothPerformPromiseThenHanded, BothPromiseThenHanded, BothRunJobHanded, BothRunFirstJobHanded}
+use Rattle.es_ops.specs.Handed.{BothOperation, BothRaiseHanded, BothMakeErrorHanded, BothMakeStringHanded, BothToPrimitiveHanded, BothToNumberHanded, BothToStringHanded, BothToPropertyKeyHanded, BothNumberExpectedHanded, BothTextExpectedHanded, BothKeyExpectedHanded, BothIsLooselyEqualHanded, BothIsCallableHanded, BothPropertyValueHanded, BothGetHanded, BothHasPropertyHanded, BothGetVHanded, BothDefinePropertyHanded, BothDefinePropertyOrThrowHanded, BothCreateDataPropertyHanded, BothCreateDataPropertyOrThrowHanded, BothOrdinarySetHanded, BothSetVHanded, BothSetOrThrowHanded, BothPutValueHanded, BothDeletePropertyOrThrowHanded, BothDeleteVHanded, BothMakeCellHanded, BothInitializeCellHanded, BothReadCellHanded, BothWriteCellHanded, BothCopyCellHanded, BothFulfilPromiseHanded, BothRejectPromiseHanded, BothResolvePromiseHanded, BothCreateResolvingFunctionsHanded, BothCallResolveFunctionHanded, BothCallRejectFunctionHanded, BothMakePromiseHanded, BothPerformPromiseThenHanded, BothPromiseThenHanded, BothRunJobHanded, BothRunFirstJobHanded, BothRequireObjectCoercibleHanded, BothGetByValueHanded, BothPutByValueHanded, BothDeleteByValueHanded, BothKeyByValueHanded, BothOrdinaryGetHanded, BothSuperGetHanded, BothSuperSetHanded, BothBinaryHanded, BothUnaryHanded, BothTypeOfHanded, BothHasPropertyInHanded, BothInstanceOfHanded, BothToTextHanded, BothJoinHanded, BothIsConstructorHanded, BothMayBeCalledHanded, BothMayBeEnteredHanded, BothConstructHanded, BothSuperCallHanded, BothCreateFromConstructorHanded, BothBaseResultHanded, BothDerivedResultHanded, BothMakeMethodHanded, BothMakeFunctionHanded, BothMakeClassHanded, BothMakeDerivedClassHanded, BothMakeObjectHanded, BothMakeArrayHanded, BothAppendHanded, BothDefineMemberHanded, BothNameFunctionHanded, BothPrintHanded, BothReadHanded}
 use Rattle.es_ops.proofs.ReadsRelated.{raise_related, make_error_related, make_text_related, to_primitive_related, to_number_related, to_string_related, to_property_key_related, number_expected_related, text_expected_related, key_expected_related, is_callable_related, property_value_related, get_related, has_property_related, get_v_related}
 use Rattle.es_ops.proofs.WritesRelated.{make_cell_related, initialize_cell_related, read_cell_related, write_cell_related, copy_cell_related, define_related, define_or_throw_related, create_related, create_or_throw_related, ordinary_set_related, set_v_related, set_or_throw_related, put_value_related, delete_or_throw_related, delete_v_related, loosely_equal_related}
 use Rattle.es_ops.proofs.JobsRelated.{fulfil_related, reject_related, resolve_related, create_functions_related, call_resolve_related, call_reject_related, make_promise_related, perform_then_related, promise_then_related, run_job_related, run_first_job_related}
+use Rattle.es_ops.proofs.MakingRelated.{append_related, define_member_related, make_array_related, make_class_related, make_derived_related, make_function_related, make_method_related, make_object_related, name_function_related}
+use Rattle.es_ops.proofs.CallingRelated.{base_result_related, construct_related, create_from_related, derived_result_related, is_constructor_related, may_be_called_related, may_be_entered_related, super_call_related}
+use Rattle.es_ops.proofs.OperatorsRelated.{binary_related, has_property_in_related, instance_of_related, join_related, to_text_related, type_of_related, unary_related}
+use Rattle.es_ops.proofs.ReferencesRelated.{delete_by_value_related, get_by_value_related, key_by_value_related, ordinary_get_related, put_by_value_related, require_related, super_get_related, super_set_related}
+use Rattle.es_ops.proofs.HostRelated.{print_related, read_related}
 use Rattle.es_ops.proofs.Stand.{stands_well}
 use Rattle.es_ops.proofs.AppliesRelated.{runs_related}
 
@@ -57,6 +62,40 @@ operation_related R one (BothPerformPromiseThenHanded h i j x y) = perform_then_
 operation_related R one (BothPromiseThenHanded h i j x) = promise_then_related _ _ _ _ _ _ _ _ h i j x
 operation_related R one (BothRunJobHanded h) = run_job_related one _ _ h
 operation_related R one BothRunFirstJobHanded = run_first_job_related one
+operation_related R one (BothRequireObjectCoercibleHanded h i) = require_related _ _ _ _ h i
+operation_related R one (BothGetByValueHanded h i j) = get_by_value_related _ _ _ _ _ _ h i j
+operation_related R one (BothPutByValueHanded h i j x) = put_by_value_related _ _ _ _ _ _ _ _ h i j x
+operation_related R one (BothDeleteByValueHanded h i j) = delete_by_value_related _ _ _ _ _ _ h i j
+operation_related R one (BothKeyByValueHanded h i j) = key_by_value_related _ _ _ _ _ _ h i j
+operation_related R one (BothOrdinaryGetHanded h i j) = ordinary_get_related _ _ _ _ _ _ _ h i j
+operation_related R one (BothSuperGetHanded h i j x) = super_get_related _ _ _ _ _ _ _ _ h i j x
+operation_related R one (BothSuperSetHanded h i j x y) = super_set_related _ _ _ _ _ _ _ _ _ _ h i j x y
+operation_related R one (BothBinaryHanded h i j) = binary_related one _ _ _ _ _ _ _ h i j
+operation_related R one (BothUnaryHanded h i) = unary_related _ _ _ _ _ h i
+operation_related R one (BothTypeOfHanded h i) = type_of_related _ _ _ _ h i
+operation_related R one (BothHasPropertyInHanded h i j) = has_property_in_related _ _ _ _ _ _ h i j
+operation_related R one (BothInstanceOfHanded h i j) = instance_of_related _ _ _ _ _ _ h i j
+operation_related R one (BothToTextHanded h i) = to_text_related _ _ _ _ h i
+operation_related R one (BothJoinHanded h i) = join_related _ _ _ _ h i
+operation_related R one (BothIsConstructorHanded h i) = is_constructor_related _ _ h i
+operation_related R one (BothMayBeCalledHanded h i) = may_be_called_related _ _ _ _ h i
+operation_related R one (BothMayBeEnteredHanded h i) = may_be_entered_related _ _ _ _ h i
+operation_related R one (BothConstructHanded h i j x) = construct_related _ _ _ _ _ _ _ _ h i j x
+operation_related R one (BothSuperCallHanded h i j x) = super_call_related _ _ _ _ _ _ _ _ h i j x
+operation_related R one (BothCreateFromConstructorHanded h i) = create_from_related _ _ _ _ _ h i
+operation_related R one (BothBaseResultHanded h i j) = base_result_related _ _ _ _ _ _ h i j
+operation_related R one (BothDerivedResultHanded h i j) = derived_result_related _ _ _ _ _ _ h i j
+operation_related R one (BothMakeMethodHanded h i j x) = make_method_related _ _ _ _ _ _ _ h i j x
+operation_related R one (BothMakeFunctionHanded h i j) = make_function_related _ _ _ _ _ h i j
+operation_related R one (BothMakeClassHanded h i j) = make_class_related _ _ _ _ _ h i j
+operation_related R one (BothMakeDerivedClassHanded h i j x) = make_derived_related _ _ _ _ _ _ _ h i j x
+operation_related R one (BothMakeObjectHanded h) = make_object_related _ _ h
+operation_related R one (BothMakeArrayHanded h) = make_array_related _ _ h
+operation_related R one (BothAppendHanded h i j) = append_related _ _ _ _ _ _ h i j
+operation_related R one (BothDefineMemberHanded h i j x) = define_member_related _ _ _ _ _ _ _ _ _ _ h i j x
+operation_related R one (BothNameFunctionHanded h i j) = name_function_related _ _ _ _ _ _ _ h i j
+operation_related R one (BothPrintHanded h i) = print_related _ _ _ _ h i
+operation_related R one (BothReadHanded h) = read_related _ _ h
 
 -- the things below a number are one to one
 pub below_one : (n : ℕ) → IsOneToOne (Below n)

@@ -1,21 +1,23 @@
 -- Errors, reads and conversions are the same but for the numbers of things.
-use Rattle.std.proofs.Common.{◌≡◌, ℕ, ◌<◌, Bool, true, false, cond, [], ◌∷◌, ℤ, pos, refl, Option, Some, None, IfSome, is_some, codes, slice_get, lit≤}
+use Rattle.std.proofs.Common.{arith, length, ◌≤◌, ◌++◌, nat_lt, ◌≡◌, ℕ, ◌<◌, Bool, true, false, cond, [], ◌∷◌, ℤ, pos, refl, Option, Some, None, IfSome, is_some, codes, slice_get, lit≤}
+use Rattle.std.proofs.lemmas.Bool.Decides.{nat_tests}
 use Rattle.js_value.specs.Number.{IsNumber}
 use Rattle.js_value.specs.NumberText.{number_of_text}
-use Rattle.js_value.specs.Value.{Value, Undefined, Null, Boolean, Object, is_object, Text, same_text, Key, Index, Named, Numeral, text_of_key, key_of_text}
+use Rattle.js_value.specs.Value.{String, Value, Undefined, Null, Boolean, Object, is_object, Text, same_text, Key, Index, Named, Numeral, text_of_key, key_of_text}
 use Rattle.js_value.specs.Store.{Content, Property, Class, callable_class, length_name}
-use Rattle.js_value.specs.Order.{IsString, IsKey, IsOrderly}
+use Rattle.js_value.specs.Order.{AreUnits, IsString, IsKey, IsOrderly}
 use Rattle.js_value.specs.Literal.{digits_number}
 use Rattle.js_value.proofs.Keys.{key_of_text_is_key, key_of_number_is_key}
 use Rattle.js_value.proofs.Profile.{is_string, string_tested, text_of_number_is_string, number_of_text_is_number, unit_of_text}
 use Rattle.es_ops.specs.Messages.{Message, NumberOutOfRange, StringTooLong, InvalidArrayLength, InvalidArgument, NotDefined, NotInitialised, EmptyArray, SuperCalledTwice, AssignmentToConstant, NotAFunction, NotAConstructor, CalledWithoutNew, NoProperties, NotWritable, NotDefinable, NotDeletable, NotAnObject, NoPrimitiveValue, PrimitiveExpected, AccessorOnIndex, PrototypeNotSettable, ResolvedWithItself, WrongReceiver, ReturnedPrimitive, text_of_message}
 use Rattle.es_ops.specs.Intrinsics.{Intrinsic, StringPrototype, NumberPrototype, BooleanPrototype}
-use Rattle.es_ops.specs.Act.{Act}
-use Rattle.es_ops.specs.Errors.{make_error, raise, make_text, message_name, error_record}
+use Rattle.es_ops.specs.Events.{MakeText}
+use Rattle.es_ops.specs.Act.{Act, Do}
+use Rattle.es_ops.specs.Errors.{make_error, raise, make_text, message_name, error_record, longest_text}
 use Rattle.es_ops.specs.PropertyReads.{is_callable, call_getter, content_value, property_value, get, has_property, inherited, StringProperty, AUnit, Length, Inherits, string_unit, string_property, string_value, get_v}
 use Rattle.es_ops.specs.Conversions.{Hint, DefaultHint, NumberHint, StringHint, primitive_by, to_primitive, number_of_primitive, number_or_raise, to_number, text_of_primitive, to_string, key_of_primitive, to_property_key, primitive_expected, number_expected, text_expected, key_expected}
 use Rattle.es_ops.specs.Related.{Naming, BothOption, BothNone, BothSome, BothEmpty, BothCons, BothValue, BothUndefined, BothNull, BothBoolean, BothNumber, BothString, BothObject, BothContent, BothData, BothAccessor, BothProperty, BothClass, BothOrdinary, BothArray, BothScript, BothBuiltIn, BothResolve, BothReject, BothError, BothPromise, BothAnObject, Related, BothAsk, BothDo, BothCall, Then, ThenSame}
-use Rattle.es_ops.proofs.Acting.{acting, ask_class}
+use Rattle.es_ops.proofs.Acting.{acting, ask_class, do_text}
 use Rattle.es_ops.proofs.Parts.{cond_related}
 
 callable_same : {R : Naming} {c d : Class} → BothClass R c d → callable_class c ≡ callable_class d
@@ -109,9 +111,24 @@ pub raise_related : {R : Naming} (e : Message) → Related R (raise e) (raise e)
 unfolding raise
 raise_related e = search (acting, make_error_related)
 
-pub make_text_related : {R : Naming} (t : Text) (k l : Value → Act) → IsString t → Then R (BothValue R) k l → Related R (make_text t k) (make_text t l)
+-- a made text has few units
+pub made_text_related : {R : Naming} (t : Text) (k l : Value → Act) → AreUnits t → Then R (BothValue R) k l → Related R (make_text t k) (make_text t l)
 unfolding make_text
-make_text_related t k l x h = search (acting, raise_related, refl, BothString)
+made_text_related {R} t k l x h = by_length (nat_lt longest_text (length t)) refl
+  where
+    short : nat_lt longest_text (length t) ≡ false → length t ≤ longest_text
+    short e = grind (arith, nat_tests)
+
+    by_length : (b : Bool) → nat_lt longest_text (length t) ≡ b → Related R (cond b (raise StringTooLong) (Do (MakeText (length t)) (λ _. k (String t)))) (cond b (raise StringTooLong) (Do (MakeText (length t)) (λ _. l (String t))))
+    by_length true e = raise_related StringTooLong
+    by_length false e = do_text (h _ _ (BothString (record { units = x; bound = omega (arith, short e) })))
+
+pub make_text_related : {R : Naming} (t : Text) (k l : Value → Act) → IsString t → Then R (BothValue R) k l → Related R (make_text t k) (make_text t l)
+make_text_related t k l x h = made_text_related t k l x.units h
+
+pub units_joined : (s t : Text) → AreUnits s → AreUnits t → AreUnits (s ++ t)
+units_joined [] t h g = g
+units_joined (u ∷ s) t h g = (h.0, units_joined s t h.1 g)
 
 -- ---- GetV
 
@@ -181,11 +198,11 @@ to_primitive_related hint v w k l BothBoolean h = search (acting, BothBoolean)
 to_primitive_related hint v w k l (BothNumber e) h = search (acting, BothNumber)
 to_primitive_related hint v w k l (BothString e) h = search (acting, BothString)
 
-number_or_raise_related : {R : Naming} (n : Option ℤ) (k l : ℤ → Act) → ((x : ℤ) → n ≡ Some x → IsNumber x) → ThenSame R IsNumber k l → Related R (number_or_raise n k) (number_or_raise n l)
+pub number_or_raise_related : {R : Naming} (n : Option ℤ) (k l : ℤ → Act) → ((x : ℤ) → n ≡ Some x → IsNumber x) → ThenSame R IsNumber k l → Related R (number_or_raise n k) (number_or_raise n l)
 number_or_raise_related None k l b h = search (acting, raise_related)
 number_or_raise_related (Some n) k l b h = search (acting, refl)
 
-with_number : {R : Naming} (v w : Value) (k l : ℤ → Act) → BothValue R v w → ThenSame R IsNumber k l → Related R (number_or_raise (number_of_primitive v) k) (number_or_raise (number_of_primitive w) l)
+pub with_number : {R : Naming} (v w : Value) (k l : ℤ → Act) → BothValue R v w → ThenSame R IsNumber k l → Related R (number_or_raise (number_of_primitive v) k) (number_or_raise (number_of_primitive w) l)
 with_number v w k l (BothObject r) h = raise_related NumberOutOfRange
 with_number v w k l BothUndefined h = raise_related NumberOutOfRange
 with_number v w k l BothNull h = h (pos 0) (record { bound = lit≤ tt })
@@ -194,7 +211,7 @@ with_number v w k l (BothBoolean {b = false}) h = h (pos 0) (record { bound = li
 with_number v w k l (BothNumber e) h = h _ e
 with_number v w k l (BothString {t = t} e) h = number_or_raise_related (number_of_text t) k l (number_of_text_is_number t) h
 
-with_text : {R : Naming} (v w : Value) (k l : Text → Act) → BothValue R v w → ThenSame R IsString k l → Related R (k (text_of_primitive v)) (l (text_of_primitive w))
+pub with_text : {R : Naming} (v w : Value) (k l : Text → Act) → BothValue R v w → ThenSame R IsString k l → Related R (k (text_of_primitive v)) (l (text_of_primitive w))
 with_text v w k l (BothObject r) h = h [] (string_tested [] refl)
 with_text v w k l BothUndefined h = h _ (string_tested (codes "undefined") refl)
 with_text v w k l BothNull h = h _ (string_tested (codes "null") refl)
@@ -203,7 +220,7 @@ with_text v w k l (BothBoolean {b = false}) h = h _ (string_tested (codes "false
 with_text v w k l (BothNumber {n = n} e) h = h _ (text_of_number_is_string n)
 with_text v w k l (BothString e) h = h _ e
 
-with_key : {R : Naming} (v w : Value) (k l : Key → Act) → BothValue R v w → ThenSame R IsKey k l → Related R (k (key_of_primitive v)) (l (key_of_primitive w))
+pub with_key : {R : Naming} (v w : Value) (k l : Key → Act) → BothValue R v w → ThenSame R IsKey k l → Related R (k (key_of_primitive v)) (l (key_of_primitive w))
 with_key v w k l (BothObject r) h = with_text (Object _) (Object _) (λ t. k (key_of_text t)) (λ t. l (key_of_text t)) (BothObject r) (λ t e. h _ (key_of_text_is_key t e))
 with_key v w k l BothUndefined h = with_text Undefined Undefined (λ t. k (key_of_text t)) (λ t. l (key_of_text t)) BothUndefined (λ t e. h _ (key_of_text_is_key t e))
 with_key v w k l BothNull h = with_text Null Null (λ t. k (key_of_text t)) (λ t. l (key_of_text t)) BothNull (λ t e. h _ (key_of_text_is_key t e))

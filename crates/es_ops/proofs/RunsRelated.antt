@@ -22,13 +22,13 @@ Performs = (ps : Pairs) (d e : Deed) (w v : World) → BothDeed (named ps) d e �
 same : (ps : Pairs) → Extends ps ps
 same ps m n h = h
 
-further : (ps qs : Pairs) (x y : Ran) → Extends ps qs → BothRan qs x y → BothRan ps x y
+pub further : (ps qs : Pairs) (x y : Ran) → Extends ps qs → BothRan qs x y → BothRan ps x y
 further ps qs (Ends c s) (Ends d t) e h = (h.0, λ m n r. h.1 m n (e m n r), h.2, h.3)
 further ps qs (Halts x s) (Halts y t) e h = (h.0, (h.1.0, λ m n r. h.1.1 m n (e m n r), h.1.2))
 further ps qs (Ends c s) (Halts y t) e h = h
 further ps qs (Halts x s) (Ends d t) e h = h
 
-spent_both : (ps : Pairs) (m n : ℕ) (s t : State) (f g : State → Ran) → m ≡ n → BothSides ps s t → ((k : ℕ) → BothRan ps (f (record s { meter = k })) (g (record t { meter = k }))) → BothRan ps (spent m s f) (spent n t g)
+pub spent_both : (ps : Pairs) (m n : ℕ) (s t : State) (f g : State → Ran) → m ≡ n → BothSides ps s t → ((k : ℕ) → BothRan ps (f (record s { meter = k })) (g (record t { meter = k }))) → BothRan ps (spent m s f) (spent n t g)
 spent_both ps m n s t f g e h next = rw e (by_meter n)
   where
     by_meter : (n : ℕ) → BothRan ps (spent n s f) (spent n t g)
@@ -48,7 +48,7 @@ ended_both ps (Halts x s) (Halts y t) f g h next = h
 ended_both ps (Ends c s) (Halts y t) f g h next = absurd h
 ended_both ps (Halts x s) (Ends d t) f g h next = absurd h
 
-returned_both : (ps : Pairs) (x y : Ran) (f g : Value → State → Ran) → BothRan ps x y → ((qs : Pairs) (v w : Value) (s t : State) → Extends ps qs → BothValue (named qs) v w → BothSides qs s t → BothRan qs (f v s) (g w t)) → BothRan ps (returned x f) (returned y g)
+pub returned_both : (ps : Pairs) (x y : Ran) (f g : Value → State → Ran) → BothRan ps x y → ((qs : Pairs) (v w : Value) (s t : State) → Extends ps qs → BothValue (named qs) v w → BothSides qs s t → BothRan qs (f v s) (g w t)) → BothRan ps (returned x f) (returned y g)
 returned_both ps (Ends c s) (Ends d t) f g h next = by_completion c d h.3
   where
     by_completion : (c d : Completion) → BothCompletion (named h.0) c d → BothRan ps (returned (Ends c s) f) (returned (Ends d t) g)

@@ -16,6 +16,12 @@ use Rattle.es_ops.specs.Jobs.{fulfil_promise, reject_promise, resolve_promise, c
 use Rattle.es_ops.specs.Ledger.{written}
 use Rattle.es_ops.specs.PropertyReads.{is_callable, property_value, get, has_property, get_v}
 use Rattle.es_ops.specs.PropertyWrites.{define_own_property as define_with_length, define_property_or_throw, create_data_property, create_data_property_or_throw, ordinary_set, set_v, set_or_throw, put_value, delete_property_or_throw, delete_v}
+use Rattle.es_ops.specs.Bindings.{initialize_cell, read_cell, write_cell, copy_cell, make_cell}
+use Rattle.es_ops.specs.References.{require_object_coercible, get_by_value, put_by_value, delete_by_value, key_by_value, ordinary_get, super_get, super_set}
+use Rattle.es_ops.specs.Operators.{binary, unary, add, apply_numeric, compare, type_of, has_property_in, instance_of, to_text, join}
+use Rattle.es_ops.specs.Calling.{is_constructor, may_be_called, may_be_entered, by_rules, construct, super_call, create_from_constructor, base_result, derived_result}
+use Rattle.es_ops.specs.Making.{make_method, make_function, make_class, make_derived_class, make_object, make_array, append, define_member, name_function}
+use Rattle.es_ops.specs.HostCalls.{print, read}
 use Rattle.js_value.specs.Literal.{literal_number, digits_number}
 use Rattle.js_value.specs.Numeral.{is_white_space}
 
@@ -114,5 +120,5 @@ used_after r = (world_after r).ledger.used
 
 -- rows that name this compute through all definitions
 unfoldable pub computing : Unit {0}
-unfolding literal_number digits_number is_white_space object_in cell_in mark_in own_property with_property without_property is_frozen run to_primitive to_number to_string to_property_key number_expected text_expected key_expected loosely_equal_within is_loosely_equal make_error raise make_text reply perform validate_and_apply_property_descriptor define_own_property delete_own_property prevent_extensions freeze longest property_from find_property on_chain set_prototype_of set_step apply_method fulfil_promise reject_promise resolve_promise create_resolving_functions call_resolve_function call_reject_function make_promise perform_promise_then promise_then run_job run_first_job written is_callable property_value get has_property get_v define_with_length define_property_or_throw create_data_property create_data_property_or_throw ordinary_set set_v set_or_throw put_value delete_property_or_throw delete_v
+unfolding binary unary add apply_numeric compare type_of has_property_in instance_of to_text join is_constructor may_be_called may_be_entered by_rules construct super_call create_from_constructor base_result derived_result require_object_coercible get_by_value put_by_value delete_by_value key_by_value ordinary_get super_get super_set make_method make_function make_class make_derived_class make_object make_array append define_member name_function print read initialize_cell read_cell write_cell copy_cell make_cell literal_number digits_number is_white_space object_in cell_in mark_in own_property with_property without_property is_frozen run to_primitive to_number to_string to_property_key number_expected text_expected key_expected loosely_equal_within is_loosely_equal make_error raise make_text reply perform validate_and_apply_property_descriptor define_own_property delete_own_property prevent_extensions freeze longest property_from find_property on_chain set_prototype_of set_step apply_method fulfil_promise reject_promise resolve_promise create_resolving_functions call_resolve_function call_reject_function make_promise perform_promise_then promise_then run_job run_first_job written is_callable property_value get has_property get_v define_with_length define_property_or_throw create_data_property create_data_property_or_throw ordinary_set set_v set_or_throw put_value delete_property_or_throw delete_v
 computing = tt

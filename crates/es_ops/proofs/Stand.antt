@@ -136,7 +136,7 @@ module _ (n m : ℕ) (le : n ≤ m) where
   thing_both : (k : ℕ) → k < n → Below m k k
   thing_both k h = (refl, omega (arith, le))
 
-  value_both : (v : Value) → IsValueBelow n v → BothValue (Below m) v v
+  pub value_both : (v : Value) → IsValueBelow n v → BothValue (Below m) v v
   value_both Undefined h = BothUndefined
   value_both Null h = BothNull
   value_both (Boolean b) h = BothBoolean
@@ -144,7 +144,7 @@ module _ (n m : ℕ) (le : n ≤ m) where
   value_both (String t) h = BothString h
   value_both (Object k) h = BothObject (thing_both k h)
 
-  if_value_both : (v : Option Value) → IfValueBelow n v → BothOption (BothValue (Below m)) v v
+  pub if_value_both : (v : Option Value) → IfValueBelow n v → BothOption (BothValue (Below m)) v v
   if_value_both None h = BothNone
   if_value_both (Some v) h = BothSome (value_both v h)
 

@@ -95,11 +95,11 @@ reply_well TheInput w h b = tt
 
 -- ---- runs
 
-ran_more : (m k : ℕ) (r : Ran) → m ≤ k → IsRanWellFormed k r → IsRanWellFormed m r
+pub ran_more : (m k : ℕ) (r : Ran) → m ≤ k → IsRanWellFormed k r → IsRanWellFormed m r
 ran_more m k (Ends c s) l h = (h.0, omega (arith, h.1), h.2)
 ran_more m k (Halts stop s) l h = h
 
-spent_well : (n : ℕ) (s : State) (f : State → Ran) → IsWorldWellFormed s.world → ((n : ℕ) → IsRanWellFormed (length s.world.store) (f (record s { meter = n }))) → IsRanWellFormed (length s.world.store) (spent n s f)
+pub spent_well : (n : ℕ) (s : State) (f : State → Ran) → IsWorldWellFormed s.world → ((n : ℕ) → IsRanWellFormed (length s.world.store) (f (record s { meter = n }))) → IsRanWellFormed (length s.world.store) (spent n s f)
 spent_well zero s f h next = h
 spent_well (suc n) s f h next = next n
 
@@ -108,7 +108,7 @@ happened_well : {A : Type 0} (e : Event A) (s : State) (f : A → State → Ran)
 happened_well (Happens a v) s f B h g w next = ran_more (length s.world.store) (length v.store) (f a (with_world s v)) g.things (next a v w.0 g.things w.1)
 happened_well (Stops full) s f B h g w next = h
 
-returned_well : (m : ℕ) (x : Ran) (f : Value → State → Ran) → IsRanWellFormed m x → ((v : Value) (t : State) → IsWorldWellFormed t.world → m ≤ length t.world.store → IsValueBelow (length t.world.store) v → IsRanWellFormed (length t.world.store) (f v t)) → IsRanWellFormed m (returned x f)
+pub returned_well : (m : ℕ) (x : Ran) (f : Value → State → Ran) → IsRanWellFormed m x → ((v : Value) (t : State) → IsWorldWellFormed t.world → m ≤ length t.world.store → IsValueBelow (length t.world.store) v → IsRanWellFormed (length t.world.store) (f v t)) → IsRanWellFormed m (returned x f)
 returned_well m (Ends (NormalCompletion v) s) f h next = ran_more m (length s.world.store) (f v s) h.1 (next v s h.0 h.1 h.2)
 returned_well m (Ends (ThrowCompletion v) s) f h next = h
 returned_well m (Halts stop s) f h next = h

@@ -13,6 +13,12 @@ pub mod PropertyWrites
 pub mod Bindings
 pub mod Jobs
 pub mod Host
+pub mod Calling
+pub mod Operators
+pub mod References
+pub mod Making
+pub mod HostCalls
+pub mod Operate
 pub mod Laws
 pub mod Operations
 pub mod Related

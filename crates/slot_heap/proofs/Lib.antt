@@ -26,3 +26,4 @@ pub mod Sounds
 pub mod Shapes
 pub mod Values
 pub mod Uses
+pub mod WaitingJobs

@@ -11,3 +11,4 @@ pub mod Reading
 pub mod Flat
 pub mod Standing
 pub mod Sound
+pub mod Waiting

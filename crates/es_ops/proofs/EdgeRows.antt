@@ -1,4 +1,4 @@
--- Rows of a review.
+-- The edges of operations: what writes cost, keys, lengths of arrays, promises, cells, prototypes, frozen things.
 use Rattle.std.proofs.Common.{◌≡◌, ℕ, Bool, true, false, List, [], ◌∷◌, map, refl, Option, Some, None, pos, negsuc, codes, set}
 use Rattle.js_value.specs.Value.{Value, Undefined, Null, Boolean, Number, String, Object, Key, Index, Named, Numeral, key_of_text, key_of_number}
 use Rattle.js_value.specs.Store.{Thing, AnObject, ACell, AMark, ObjectRecord, Class, ResolveFunction, RejectFunction, Error, Array, Property, Data, Promise, PromiseState, Pending, Fulfilled, Rejected, Reaction, ScriptFunction, own_keys, with_property, without_property, is_frozen}
@@ -51,48 +51,48 @@ done = Give Null
 inheriting : List Thing
 inheriting = AnObject (ordinary (Some 14) []) ∷ AnObject (ordinary None ((codes "a", plain n1) ∷ (codes "b", plain n1) ∷ [])) ∷ []
 
-r01 : cost inheriting (put_value (Object 13) a n1 done) ≡ some_slots 2
+receiver_alone_is_copied : cost inheriting (put_value (Object 13) a n1 done) ≡ some_slots 2
 unfolding computing rom cost a n1 done inheriting
-r01 = refl
+receiver_alone_is_copied = refl
 
 -- an array of two elements: 1 + 1 + 2, then 1 for the new one; afterwards 1 each
 pair : List Thing
 pair = AnObject (array_of ((0, plain n1) ∷ (1, plain n1) ∷ []) 2 true) ∷ []
 
-r02 : map (cost pair) (put_value (Object 13) (Index 2) n1 done ∷ put_value (Object 13) (Index 2) n1 (put_value (Object 13) (Index 5) n1 (put_value (Object 13) (Index 0) n1 done)) ∷ put_value (Object 13) len (Number (pos 0)) done ∷ put_value (Object 13) (Index 0) n1 done ∷ delete_v (Object 13) (Index 0) done ∷ delete_v (Object 13) (Index 7) done ∷ Do (Apply 13 Freeze) (λ b. done) ∷ Do (Apply 13 (SetPrototypeOf (Some 3))) (λ b. done) ∷ Do (Apply 13 (DefineOwnProperty (Index 0) no_fields)) (λ b. done) ∷ Do (Apply 13 (DefineOwnProperty (Index 0) (value_descriptor n1))) (λ b. done) ∷ Do (Apply 13 (DefineOwnProperty (Index 2) no_fields)) (λ b. done) ∷ [])
+costs_of_array_writes : map (cost pair) (put_value (Object 13) (Index 2) n1 done ∷ put_value (Object 13) (Index 2) n1 (put_value (Object 13) (Index 5) n1 (put_value (Object 13) (Index 0) n1 done)) ∷ put_value (Object 13) len (Number (pos 0)) done ∷ put_value (Object 13) (Index 0) n1 done ∷ delete_v (Object 13) (Index 0) done ∷ delete_v (Object 13) (Index 7) done ∷ Do (Apply 13 Freeze) (λ b. done) ∷ Do (Apply 13 (SetPrototypeOf (Some 3))) (λ b. done) ∷ Do (Apply 13 (DefineOwnProperty (Index 0) no_fields)) (λ b. done) ∷ Do (Apply 13 (DefineOwnProperty (Index 0) (value_descriptor n1))) (λ b. done) ∷ Do (Apply 13 (DefineOwnProperty (Index 2) no_fields)) (λ b. done) ∷ [])
     ≡ some_slots 5 ∷ some_slots 6 ∷ some_slots 4 ∷ some_slots 4 ∷ some_slots 4 ∷ nothing ∷ some_slots 4 ∷ some_slots 4 ∷ nothing ∷ some_slots 4 ∷ some_slots 5 ∷ []
 unfolding computing rom cost len n1 done pair
-r02 = refl
+costs_of_array_writes = refl
 
 -- a refused write costs its error alone
 unwritable : List Thing
 unwritable = AnObject (ordinary None ((codes "a", fixed n1) ∷ [])) ∷ []
 
-r03 : map (cost unwritable) (put_value (Object 13) a n1 done ∷ delete_v (Object 13) a done ∷ Do (Apply 13 (DefineOwnProperty a (value_descriptor Null))) (λ b. done) ∷ Do (Apply 13 (DefineOwnProperty a (value_descriptor n1))) (λ b. done) ∷ [])
+costs_of_refused_writes : map (cost unwritable) (put_value (Object 13) a n1 done ∷ delete_v (Object 13) a done ∷ Do (Apply 13 (DefineOwnProperty a (value_descriptor Null))) (λ b. done) ∷ Do (Apply 13 (DefineOwnProperty a (value_descriptor n1))) (λ b. done) ∷ [])
     ≡ some_slots 2 ∷ some_slots 2 ∷ nothing ∷ some_slots 2 ∷ []
 unfolding computing rom cost a n1 done fixed unwritable
-r03 = refl
+costs_of_refused_writes = refl
 
 -- a setter is no write
 with_setter : List Thing
 with_setter = AnObject (ordinary None ((codes "a", setter (Object 14)) ∷ [])) ∷ AnObject (function 1) ∷ []
 
-r04 : cost with_setter (put_value (Object 13) a n1 done) ≡ nothing
+setter_is_no_write : cost with_setter (put_value (Object 13) a n1 done) ≡ nothing
 unfolding computing rom cost a n1 done with_setter
-r04 = refl
+setter_is_no_write = refl
 
 -- lowering that stops on its way: the copy (1 + 1 + 3) and the error; at the old length none
 holding : List Thing
 holding = AnObject (array_of ((0, plain n1) ∷ (1, stuck n1) ∷ (2, plain n1) ∷ []) 3 true) ∷ AnObject (array_of ((0, plain n1) ∷ (1, stuck n1) ∷ []) 2 true) ∷ []
 
-r05 : map (cost holding) (put_value (Object 13) len (Number (pos 0)) done ∷ put_value (Object 14) len (Number (pos 0)) done ∷ Do (Apply 14 (DefineOwnProperty len (record (value_descriptor (Number (pos 0))) { writable = Some false }))) (λ b. done) ∷ [])
+costs_of_lowered_lengths : map (cost holding) (put_value (Object 13) len (Number (pos 0)) done ∷ put_value (Object 14) len (Number (pos 0)) done ∷ Do (Apply 14 (DefineOwnProperty len (record (value_descriptor (Number (pos 0))) { writable = Some false }))) (λ b. done) ∷ [])
     ≡ some_slots 7 ∷ some_slots 2 ∷ some_slots 4 ∷ []
 unfolding computing rom cost len n1 done stuck holding
-r05 = refl
+costs_of_lowered_lengths = refl
 
-r06 : thing_after (rom holding 900 (put_value (Object 13) len (Number (pos 0)) done)) 15 ≡ Some (error_of 6 NotWritable)
+error_of_lowered_length : thing_after (rom holding 900 (put_value (Object 13) len (Number (pos 0)) done)) 15 ≡ Some (error_of 6 NotWritable)
 unfolding computing rom len n1 done stuck holding error_of
-r06 = refl
+error_of_lowered_length = refl
 
 -- promises of the ROM
 promise : PromiseState → List Reaction → Thing
@@ -105,10 +105,10 @@ promises : List Thing
 promises = promise Pending (reaction 14 ∷ reaction 14 ∷ []) ∷ promise Pending [] ∷ AMark false ∷ AnObject (function 3) ∷ promise (Fulfilled n1) [] ∷ promise (Rejected n1) [] ∷ []
 
 -- copy 2 + 6, two jobs; derived promise 2, copy 2, reaction 3; derived 2 and a job 4
-r07 : map (cost promises) (fulfil_promise 13 Null done ∷ reject_promise 13 Null done ∷ promise_then 14 (Object 16) Null (λ d. done) ∷ promise_then 17 (Object 16) Null (λ d. done) ∷ call_resolve_function 14 15 Null ∷ call_reject_function 14 15 Null ∷ fulfil_promise 17 Null done ∷ [])
+costs_of_promises : map (cost promises) (fulfil_promise 13 Null done ∷ reject_promise 13 Null done ∷ promise_then 14 (Object 16) Null (λ d. done) ∷ promise_then 17 (Object 16) Null (λ d. done) ∷ call_resolve_function 14 15 Null ∷ call_reject_function 14 15 Null ∷ fulfil_promise 17 Null done ∷ [])
     ≡ some_slots 16 ∷ some_slots 16 ∷ some_slots 7 ∷ some_slots 6 ∷ some_slots 3 ∷ some_slots 3 ∷ nothing ∷ []
 unfolding computing rom cost n1 done promise reaction promises
-r07 = refl
+costs_of_promises = refl
 
 -- names
 naming : List Thing
@@ -117,28 +117,28 @@ naming = AnObject (ordinary None []) ∷ AnObject (ordinary None []) ∷ []
 flat_cost : Act → Room
 flat_cost p = used_after (runs p naming)
 
-r08 : map flat_cost (put_value (Object 13) (Named (codes "zz")) n1 (put_value (Object 14) (Named (codes "zz")) n1 done) ∷ put_value (Object 13) (key_of_number (negsuc 0)) n1 done ∷ put_value (Object 13) (key_of_text (codes "-1")) n1 (put_value (Object 14) (key_of_number (negsuc 0)) n1 done) ∷ put_value (Object 13) (key_of_text (codes "4294967295")) n1 done ∷ put_value (Object 13) (key_of_number (pos 4294967294)) n1 done ∷ put_value (Object 13) (key_of_text (codes "4294967294")) n1 done ∷ put_value (Object 13) (key_of_text (codes "01")) n1 done ∷ put_value (Object 13) a n1 done ∷ [])
+costs_of_names : map flat_cost (put_value (Object 13) (Named (codes "zz")) n1 (put_value (Object 14) (Named (codes "zz")) n1 done) ∷ put_value (Object 13) (key_of_number (negsuc 0)) n1 done ∷ put_value (Object 13) (key_of_text (codes "-1")) n1 (put_value (Object 14) (key_of_number (negsuc 0)) n1 done) ∷ put_value (Object 13) (key_of_text (codes "4294967295")) n1 done ∷ put_value (Object 13) (key_of_number (pos 4294967294)) n1 done ∷ put_value (Object 13) (key_of_text (codes "4294967294")) n1 done ∷ put_value (Object 13) (key_of_text (codes "01")) n1 done ∷ put_value (Object 13) a n1 done ∷ [])
     ≡ record { slots = 2; units = 0; names = 1 } ∷ record { slots = 1; units = 2; names = 1 } ∷ record { slots = 2; units = 0; names = 1 } ∷ record { slots = 1; units = 0; names = 1 } ∷ some_slots 1 ∷ some_slots 1 ∷ record { slots = 1; units = 0; names = 1 } ∷ some_slots 1 ∷ []
 unfolding computing a n1 done naming flat_cost
-r08 = refl
+costs_of_names = refl
 
-r09 : (world_after (runs (put_value (Object 13) (Named (codes "zz")) n1 (put_value (Object 13) (key_of_number (negsuc 4)) n1 done)) naming)).names ≡ codes "length" ∷ codes "a" ∷ codes "b" ∷ codes "then" ∷ codes "zz" ∷ codes "-5" ∷ []
+names_in_order : (world_after (runs (put_value (Object 13) (Named (codes "zz")) n1 (put_value (Object 13) (key_of_number (negsuc 4)) n1 done)) naming)).names ≡ codes "length" ∷ codes "a" ∷ codes "b" ∷ codes "then" ∷ codes "zz" ∷ codes "-5" ∷ []
 unfolding computing n1 done naming
-r09 = refl
+names_in_order = refl
 
 -- the greatest index
-r10 : thing_after (runs (put_value (Object 13) (Index 4294967294) n1 done) (AnObject (array_of [] 0 true) ∷ [])) 13 ≡ Some (AnObject (array_of ((4294967294, plain n1) ∷ []) 4294967295 true))
+greatest_index : thing_after (runs (put_value (Object 13) (Index 4294967294) n1 done) (AnObject (array_of [] 0 true) ∷ [])) 13 ≡ Some (AnObject (array_of ((4294967294, plain n1) ∷ []) 4294967295 true))
 unfolding computing n1 done
-r10 = refl
+greatest_index = refl
 
 -- an accessor on an index; on a frozen object too
 getter_of : PropertyDescriptor
 getter_of = record no_fields { get = Some (Object 13) }
 
-r11 : thing_after (runs (define_property_or_throw number_expected 13 (Index 0) getter_of done) naming) 15 ∷ thing_after (runs (define_property_or_throw number_expected 13 (Index 0) (record getter_of { value = Some n1 }) done) naming) 15 ∷ thing_after (runs (define_property_or_throw number_expected 13 a (record getter_of { value = Some n1 }) done) naming) 15 ∷ []
+accessors_on_indices : thing_after (runs (define_property_or_throw number_expected 13 (Index 0) getter_of done) naming) 15 ∷ thing_after (runs (define_property_or_throw number_expected 13 (Index 0) (record getter_of { value = Some n1 }) done) naming) 15 ∷ thing_after (runs (define_property_or_throw number_expected 13 a (record getter_of { value = Some n1 }) done) naming) 15 ∷ []
     ≡ Some (error_of 6 AccessorOnIndex) ∷ Some (error_of 6 NotDefinable) ∷ Some (error_of 6 NotDefinable) ∷ []
 unfolding computing a n1 done naming getter_of error_of
-r11 = refl
+accessors_on_indices = refl
 
 -- an array's length: what converts and what throws
 lengths : List Thing
@@ -147,53 +147,62 @@ lengths = AnObject (array_of [] 5 true) ∷ AnObject (ordinary None ((codes "val
 after_length : Value → Option Thing
 after_length v = thing_after (runs (put_value (Object 13) len v done) lengths) 13
 
-r12 : map after_length (Null ∷ Boolean true ∷ String (codes " 0x10 ") ∷ String [] ∷ Object 14 ∷ [])
+lengths_converted : map after_length (Null ∷ Boolean true ∷ String (codes " 0x10 ") ∷ String [] ∷ Object 14 ∷ [])
     ≡ Some (AnObject (array_of [] 0 true)) ∷ Some (AnObject (array_of [] 1 true)) ∷ Some (AnObject (array_of [] 16 true)) ∷ Some (AnObject (array_of [] 0 true)) ∷ Some (AnObject (array_of [] 7 true)) ∷ []
 unfolding computing len n1 done lengths after_length
-r12 = refl
+lengths_converted = refl
 
 thrown_by_length : Value → Option Thing
 thrown_by_length v = thing_after (runs (put_value (Object 13) len v done) lengths) 16
 
-r13 : map thrown_by_length (Undefined ∷ String (codes "1e1") ∷ Number (negsuc 0) ∷ Number (pos 4294967296) ∷ [])
+lengths_refused : map thrown_by_length (Undefined ∷ String (codes "1e1") ∷ Number (negsuc 0) ∷ Number (pos 4294967296) ∷ [])
     ≡ Some (error_of 3 NumberOutOfRange) ∷ Some (error_of 3 NumberOutOfRange) ∷ Some (error_of 3 InvalidArrayLength) ∷ Some (error_of 3 InvalidArrayLength) ∷ []
 unfolding computing len done lengths thrown_by_length error_of
-r13 = refl
+lengths_refused = refl
 
-r14 : thing_after (runs (set_or_throw number_expected 13 len (Object 14) done) lengths) 16 ∷ thing_after (runs (create_data_property_or_throw 13 len n1 done) lengths) 16 ∷ []
+lengths_by_built_ins : thing_after (runs (set_or_throw number_expected 13 len (Object 14) done) lengths) 16 ∷ thing_after (runs (create_data_property_or_throw 13 len n1 done) lengths) 16 ∷ []
     ≡ Some (error_of 6 PrimitiveExpected) ∷ Some (error_of 6 NotDefinable) ∷ []
 unfolding computing len n1 done lengths error_of
-r14 = refl
+lengths_by_built_ins = refl
+
+-- the greatest length, and an object where a built-in takes a length
+greatest_length : after_length (Number (pos 4294967295)) ≡ Some (AnObject (array_of [] 4294967295 true))
+unfolding computing len n1 done lengths after_length
+greatest_length = refl
+
+object_as_a_length : thing_after (runs (create_data_property_or_throw 13 len (Object 14) done) lengths) 16 ≡ Some (error_of 6 PrimitiveExpected)
+unfolding computing len n1 done lengths error_of
+object_as_a_length = refl
 
 -- an array as a prototype: its length is found, and the receiver gets its own, unconverted
 array_proto : Bool → List Thing
 array_proto writable = AnObject (ordinary (Some 14) []) ∷ AnObject (array_of [] 5 writable) ∷ []
 
-r15 : thing_after (runs (put_value (Object 13) len (String (codes "x")) done) (array_proto true)) 13 ∷ thing_after (runs (put_value (Object 13) len n1 done) (array_proto false)) 15 ∷ []
+length_of_a_prototype : thing_after (runs (put_value (Object 13) len (String (codes "x")) done) (array_proto true)) 13 ∷ thing_after (runs (put_value (Object 13) len n1 done) (array_proto false)) 15 ∷ []
     ≡ Some (AnObject (ordinary (Some 14) ((codes "length", plain (String (codes "x"))) ∷ []))) ∷ Some (error_of 6 NotWritable) ∷ []
 unfolding computing len n1 done array_proto error_of
-r15 = refl
+length_of_a_prototype = refl
 
 -- super.length = "3" with an array as receiver: it is converted
-r16 : thing_after (runs (ordinary_set to_number 13 len (String (codes "3")) (Object 14) (λ b. Give (Boolean b))) (AnObject (ordinary None []) ∷ AnObject (array_of [] 5 true) ∷ [])) 14 ≡ Some (AnObject (array_of [] 3 true))
+length_through_super : thing_after (runs (ordinary_set to_number 13 len (String (codes "3")) (Object 14) (λ b. Give (Boolean b))) (AnObject (ordinary None []) ∷ AnObject (array_of [] 5 true) ∷ [])) 14 ≡ Some (AnObject (array_of [] 3 true))
 unfolding computing len
-r16 = refl
+length_through_super = refl
 
 -- ---- keys and order
 three_keys : ObjectRecord
 three_keys = with_property (without_property (with_property (with_property (with_property (with_property (array_of [] 9 true) (Named (codes "b")) (plain n1)) a (plain n1)) (Index 7) (plain n1)) (Index 3) (plain n1)) (Named (codes "b"))) (Named (codes "b")) (plain Null)
 
-r17 : own_keys three_keys ≡ Index 3 ∷ Index 7 ∷ len ∷ a ∷ Named (codes "b") ∷ []
+own_keys_in_order : own_keys three_keys ≡ Index 3 ∷ Index 7 ∷ len ∷ a ∷ Named (codes "b") ∷ []
 unfolding computing a len n1 three_keys
-r17 = refl
+own_keys_in_order = refl
 
 -- a property that changes keeps its place
 ab : ObjectRecord
 ab = ordinary None ((codes "a", getter (Object 3)) ∷ (codes "b", plain n1) ∷ [])
 
-r18 : define_own_property ab a (value_descriptor n1) ≡ wrote (ordinary None ((codes "a", record { content = Data n1 false; enumerable = true; configurable = true }) ∷ (codes "b", plain n1) ∷ []))
+changed_property_keeps_its_place : define_own_property ab a (value_descriptor n1) ≡ wrote (ordinary None ((codes "a", record { content = Data n1 false; enumerable = true; configurable = true }) ∷ (codes "b", plain n1) ∷ []))
 unfolding computing a n1 ab
-r18 = refl
+changed_property_keeps_its_place = refl
 
 shown_key : Key → Act
 shown_key (Index i) = Give (Number (pos i))
@@ -203,23 +212,23 @@ shown_key (Numeral n) = Give (Boolean true)
 key_shown : Value → Came
 key_shown v = came (runs (to_property_key v shown_key) (AnObject (ordinary None ((codes "toString", plain (Object 14)) ∷ [])) ∷ AnObject (function 3) ∷ []))
 
-r19 : map key_shown (n1 ∷ String (codes "1") ∷ String (codes "01") ∷ Number (negsuc 0) ∷ Null ∷ Undefined ∷ Boolean false ∷ Object 13 ∷ String (codes "4294967295") ∷ Number (pos 4294967295) ∷ String (codes "4294967294") ∷ String [] ∷ String (codes "-0") ∷ [])
+keys_of_values : map key_shown (n1 ∷ String (codes "1") ∷ String (codes "01") ∷ Number (negsuc 0) ∷ Null ∷ Undefined ∷ Boolean false ∷ Object 13 ∷ String (codes "4294967295") ∷ Number (pos 4294967295) ∷ String (codes "4294967294") ∷ String [] ∷ String (codes "-0") ∷ [])
     ≡ Gave n1 ∷ Gave n1 ∷ Gave (String (codes "01")) ∷ Gave (Boolean true) ∷ Gave (String (codes "null")) ∷ Gave (String (codes "undefined")) ∷ Gave (String (codes "false")) ∷ Gave (Number (pos 7)) ∷ Gave (String (codes "4294967295")) ∷ Gave (Boolean true) ∷ Gave (Number (pos 4294967294)) ∷ Gave (String []) ∷ Gave (String (codes "-0")) ∷ []
 unfolding computing n1 shown_key key_shown
-r19 = refl
+keys_of_values = refl
 
-r20 : map number_of_text ([] ∷ (65279 ∷ 9 ∷ 49 ∷ 50 ∷ 10 ∷ 8233 ∷ []) ∷ codes "+0" ∷ codes "-0" ∷ codes "-7" ∷ codes "0X1F" ∷ codes "0b102" ∷ codes "0o17" ∷ codes "-0x1" ∷ codes "+0x1" ∷ codes "1e3" ∷ codes "1.0" ∷ codes "Infinity" ∷ codes "9007199254740991" ∷ codes "9007199254740992" ∷ codes "-9007199254740991" ∷ codes "00012" ∷ codes "0x" ∷ codes "-" ∷ codes "1 2" ∷ codes "1_0" ∷ codes "0x20000000000000" ∷ codes "0x1fffffffffffff" ∷ [])
+numbers_of_texts : map number_of_text ([] ∷ (65279 ∷ 9 ∷ 49 ∷ 50 ∷ 10 ∷ 8233 ∷ []) ∷ codes "+0" ∷ codes "-0" ∷ codes "-7" ∷ codes "0X1F" ∷ codes "0b102" ∷ codes "0o17" ∷ codes "-0x1" ∷ codes "+0x1" ∷ codes "1e3" ∷ codes "1.0" ∷ codes "Infinity" ∷ codes "9007199254740991" ∷ codes "9007199254740992" ∷ codes "-9007199254740991" ∷ codes "00012" ∷ codes "0x" ∷ codes "-" ∷ codes "1 2" ∷ codes "1_0" ∷ codes "0x20000000000000" ∷ codes "0x1fffffffffffff" ∷ [])
     ≡ Some (pos 0) ∷ Some (pos 12) ∷ Some (pos 0) ∷ None ∷ Some (negsuc 6) ∷ Some (pos 31) ∷ None ∷ Some (pos 15) ∷ None ∷ None ∷ None ∷ None ∷ None ∷ Some (pos 9007199254740991) ∷ None ∷ Some (negsuc 9007199254740990) ∷ Some (pos 12) ∷ None ∷ None ∷ None ∷ None ∷ None ∷ Some (pos 9007199254740991) ∷ []
 unfolding computing
-r20 = refl
+numbers_of_texts = refl
 
 equal : (x y : Value) → Came
 equal x y = came (runs (is_loosely_equal x y (λ b. Give (Boolean b))) (AnObject (ordinary None ((codes "valueOf", plain (Object 14)) ∷ [])) ∷ AnObject (function 3) ∷ []))
 
-r21 : equal (String (codes "7")) (Object 13) ∷ equal (String (codes "a")) (Boolean true) ∷ equal (Boolean false) (String []) ∷ equal (Boolean false) Null ∷ equal (String (codes "8")) (Object 13) ∷ equal (Object 13) (Boolean true) ∷ equal Undefined (String (codes "x")) ∷ []
+loose_equalities : equal (String (codes "7")) (Object 13) ∷ equal (String (codes "a")) (Boolean true) ∷ equal (Boolean false) (String []) ∷ equal (Boolean false) Null ∷ equal (String (codes "8")) (Object 13) ∷ equal (Object 13) (Boolean true) ∷ equal Undefined (String (codes "x")) ∷ []
     ≡ Gave (Boolean true) ∷ Threw (Object 15) ∷ Gave (Boolean true) ∷ Gave (Boolean false) ∷ Gave (Boolean false) ∷ Gave (Boolean false) ∷ Gave (Boolean false) ∷ []
 unfolding computing equal
-r21 = refl
+loose_equalities = refl
 
 -- ---- promises
 
@@ -230,60 +239,60 @@ ps = promise Pending [] ∷ promise Pending [] ∷ AMark false ∷ AnObject (ord
 after : Act → World
 after p = world_after (runs p ps)
 
-r22 : thing_after (runs (call_resolve_function 13 15 (Object 16)) ps) 13 ∷ thing_after (runs (call_resolve_function 13 15 (Object 18)) ps) 13 ∷ thing_after (runs (call_resolve_function 13 15 (Object 19)) ps) 13 ∷ []
+resolutions_by_then : thing_after (runs (call_resolve_function 13 15 (Object 16)) ps) 13 ∷ thing_after (runs (call_resolve_function 13 15 (Object 18)) ps) 13 ∷ thing_after (runs (call_resolve_function 13 15 (Object 19)) ps) 13 ∷ []
     ≡ Some (promise (Rejected (Number (pos 9))) []) ∷ Some (promise (Fulfilled (Object 18)) []) ∷ Some (promise (Fulfilled (Object 19)) []) ∷ []
 unfolding computing n1 promise ps
-r22 = refl
+resolutions_by_then = refl
 
-r23 : (after (call_resolve_function 13 15 (Object 16))).rejections ∷ (after (reject_promise 14 Null (reject_promise 13 Null done))).rejections ∷ (after (reject_promise 14 Null (reject_promise 13 Null (promise_then 14 Null Null (λ d. done))))).rejections ∷ [] ≡ (13 ∷ []) ∷ (14 ∷ 13 ∷ []) ∷ (13 ∷ []) ∷ []
+rejections_in_order : (after (call_resolve_function 13 15 (Object 16))).rejections ∷ (after (reject_promise 14 Null (reject_promise 13 Null done))).rejections ∷ (after (reject_promise 14 Null (reject_promise 13 Null (promise_then 14 Null Null (λ d. done))))).rejections ∷ [] ≡ (13 ∷ []) ∷ (14 ∷ 13 ∷ []) ∷ (13 ∷ []) ∷ []
 unfolding computing n1 done promise ps after
-r23 = refl
+rejections_in_order = refl
 
 -- no unit for a job
 no_unit : Ran
 no_unit = run calls run_first_job (record (state_in (record (world_of ps) { jobs = FulfilJob Undefined 13 Null ∷ [] })) { meter = 0 })
 
-r24 : came no_unit ≡ Stopped Budget
+job_without_a_unit : came no_unit ≡ Stopped Budget
 unfolding computing promise n1 ps no_unit
-r24 = refl
+job_without_a_unit = refl
 
-r25 : (world_after no_unit).jobs ≡ FulfilJob Undefined 13 Null ∷ []
+job_stays_without_a_unit : (world_after no_unit).jobs ≡ FulfilJob Undefined 13 Null ∷ []
 unfolding computing promise n1 ps no_unit
-r25 = refl
+job_stays_without_a_unit = refl
 
 -- a thenable's job: mark 21, functions 22 and 23; where `then` throws, the mark is set
 thenable : ℕ → Ran
 thenable f = runs (run_job (ThenableJob 13 (Object 18) (Object f))) ps
 
-r26 : thing_after (thenable 17) 13 ∷ thing_after (thenable 17) 21 ∷ thing_after (thenable 20) 13 ∷ thing_after (thenable 20) 21 ∷ []
+thenable_that_throws : thing_after (thenable 17) 13 ∷ thing_after (thenable 17) 21 ∷ thing_after (thenable 20) 13 ∷ thing_after (thenable 20) 21 ∷ []
     ≡ Some (promise (Rejected (Number (pos 9))) []) ∷ Some (AMark true) ∷ Some (promise Pending []) ∷ Some (AMark false) ∷ []
 unfolding computing promise n1 ps thenable
-r26 = refl
+thenable_that_throws = refl
 
-r27 : used_after (thenable 17) ∷ used_after (thenable 20) ∷ [] ≡ some_slots 13 ∷ some_slots 13 ∷ []
+costs_of_thenable_jobs : used_after (thenable 17) ∷ used_after (thenable 20) ∷ [] ≡ some_slots 13 ∷ some_slots 13 ∷ []
 unfolding computing promise n1 ps thenable
-r27 = refl
+costs_of_thenable_jobs = refl
 
 -- handlers: one that throws; none, with the derived promise itself; a reason passed on
-r28 : thing_after (runs (run_job (FulfilJob (Object 17) 13 Null)) ps) 13 ∷ thing_after (runs (run_job (FulfilJob Undefined 13 (Object 13))) ps) 21 ∷ thing_after (runs (run_job (RejectJob Undefined 13 n1)) ps) 13 ∷ thing_after (runs (run_job (RejectJob (Object 20) 13 n1)) ps) 13 ∷ []
+handlers : thing_after (runs (run_job (FulfilJob (Object 17) 13 Null)) ps) 13 ∷ thing_after (runs (run_job (FulfilJob Undefined 13 (Object 13))) ps) 21 ∷ thing_after (runs (run_job (RejectJob Undefined 13 n1)) ps) 13 ∷ thing_after (runs (run_job (RejectJob (Object 20) 13 n1)) ps) 13 ∷ []
     ≡ Some (promise (Rejected (Number (pos 9))) []) ∷ Some (error_of 6 ResolvedWithItself) ∷ Some (promise (Rejected n1) []) ∷ Some (promise (Fulfilled Undefined) []) ∷ []
 unfolding computing promise n1 ps error_of
-r28 = refl
+handlers = refl
 
 -- ---- cells
 
 cells : List Thing
 cells = ACell (record { value = None; const = true }) ∷ ACell (record { value = Some n1; const = true }) ∷ ACell (record { value = Some n1; const = false }) ∷ []
 
-r29 : thing_after (runs (write_cell 13 Null done) cells) 16 ∷ thing_after (runs (write_cell 14 Null done) cells) 16 ∷ thing_after (runs (read_cell 13 Give) cells) 16 ∷ thing_after (runs (copy_cell 14 (λ c. done)) cells) 16 ∷ thing_after (runs (write_cell 15 Null done) cells) 15 ∷ []
+cells_read_and_written : thing_after (runs (write_cell 13 Null done) cells) 16 ∷ thing_after (runs (write_cell 14 Null done) cells) 16 ∷ thing_after (runs (read_cell 13 Give) cells) 16 ∷ thing_after (runs (copy_cell 14 (λ c. done)) cells) 16 ∷ thing_after (runs (write_cell 15 Null done) cells) 15 ∷ []
     ≡ Some (error_of 4 NotInitialised) ∷ Some (error_of 6 AssignmentToConstant) ∷ Some (error_of 4 NotInitialised) ∷ Some (ACell (record { value = Some n1; const = true })) ∷ Some (ACell (record { value = Some Null; const = false })) ∷ []
 unfolding computing n1 done cells error_of write_cell read_cell copy_cell
-r29 = refl
+cells_read_and_written = refl
 
-r30 : map (cost cells) (initialize_cell 13 Null done ∷ write_cell 15 Null (write_cell 15 n1 done) ∷ write_cell 14 Null done ∷ read_cell 15 Give ∷ copy_cell 15 (λ c. done) ∷ make_cell true (λ c. initialize_cell c Null done) ∷ [])
+costs_of_cells : map (cost cells) (initialize_cell 13 Null done ∷ write_cell 15 Null (write_cell 15 n1 done) ∷ write_cell 14 Null done ∷ read_cell 15 Give ∷ copy_cell 15 (λ c. done) ∷ make_cell true (λ c. initialize_cell c Null done) ∷ [])
     ≡ some_slots 1 ∷ some_slots 1 ∷ some_slots 2 ∷ nothing ∷ some_slots 1 ∷ some_slots 1 ∷ []
 unfolding computing n1 done cells rom cost write_cell read_cell copy_cell make_cell initialize_cell
-r30 = refl
+costs_of_cells = refl
 
 -- ---- prototypes
 
@@ -293,15 +302,15 @@ line = AnObject (ordinary (Some 14) []) ∷ AnObject (ordinary (Some 15) []) ∷
 set_proto : ℕ → Option ℕ → Came
 set_proto n p = came (runs (Do (Apply n (SetPrototypeOf p)) (λ b. Give (Boolean b))) line)
 
-r31 : set_proto 15 (Some 13) ∷ set_proto 13 (Some 13) ∷ set_proto 13 None ∷ set_proto 13 (Some 15) ∷ set_proto 16 None ∷ set_proto 16 (Some 13) ∷ []
+prototypes_set : set_proto 15 (Some 13) ∷ set_proto 13 (Some 13) ∷ set_proto 13 None ∷ set_proto 13 (Some 15) ∷ set_proto 16 None ∷ set_proto 16 (Some 13) ∷ []
     ≡ Gave (Boolean false) ∷ Gave (Boolean false) ∷ Gave (Boolean true) ∷ Gave (Boolean true) ∷ Gave (Boolean true) ∷ Gave (Boolean false) ∷ []
 unfolding computing line set_proto
-r31 = refl
+prototypes_set = refl
 
-r32 : came (runs (has_property 13 len (λ b. Give (Boolean b))) line) ∷ came (runs (get 13 len Give) line) ∷ came (runs (has_property 13 a (λ b. Give (Boolean b))) line) ∷ []
+found_along_a_chain : came (runs (has_property 13 len (λ b. Give (Boolean b))) line) ∷ came (runs (get 13 len Give) line) ∷ came (runs (has_property 13 a (λ b. Give (Boolean b))) line) ∷ []
     ≡ Gave (Boolean true) ∷ Gave (Number (pos 4)) ∷ Gave (Boolean false) ∷ []
 unfolding computing line len a
-r32 = refl
+found_along_a_chain = refl
 
 -- a property of a primitive's prototype: the receiver is the primitive
 fs : List Thing
@@ -310,176 +319,176 @@ fs = AnObject (function 1) ∷ []
 primitive : ℕ → Act → Came
 primitive place p = came (run calls p (state_in (record (world_of fs) { store = set (realm_of fs) place (AnObject (ordinary None ((codes "a", getter (Object 13)) ∷ (codes "b", setter (Object 13)) ∷ []))) })))
 
-r33 : primitive 11 (get_v (String (codes "xy")) a Give) ∷ primitive 8 (get_v n1 a Give) ∷ primitive 7 (get_v (Boolean true) a Give) ∷ primitive 11 (put_value (String (codes "xy")) (Named (codes "b")) n1 done) ∷ primitive 11 (put_value (String (codes "xy")) a n1 done) ∷ primitive 0 (get_v n1 a Give) ∷ []
+primitives_as_receivers : primitive 11 (get_v (String (codes "xy")) a Give) ∷ primitive 8 (get_v n1 a Give) ∷ primitive 7 (get_v (Boolean true) a Give) ∷ primitive 11 (put_value (String (codes "xy")) (Named (codes "b")) n1 done) ∷ primitive 11 (put_value (String (codes "xy")) a n1 done) ∷ primitive 0 (get_v n1 a Give) ∷ []
     ≡ Gave (String (codes "xy")) ∷ Gave n1 ∷ Gave (Boolean true) ∷ Gave Null ∷ Threw (Object 14) ∷ Gave Undefined ∷ []
 unfolding computing a n1 done fs primitive
-r33 = refl
+primitives_as_receivers = refl
 
-r34 : thing_after (runs (delete_v Null a done) []) 13 ∷ thing_after (runs (get_v Undefined a Give) []) 13 ∷ thing_after (runs (put_value Null a n1 done) []) 13 ∷ thing_after (runs (put_value n1 a n1 done) []) 13 ∷ thing_after (runs (delete_v (String (codes "a")) (Index 0) done) []) 13 ∷ []
+bases_without_properties : thing_after (runs (delete_v Null a done) []) 13 ∷ thing_after (runs (get_v Undefined a Give) []) 13 ∷ thing_after (runs (put_value Null a n1 done) []) 13 ∷ thing_after (runs (put_value n1 a n1 done) []) 13 ∷ thing_after (runs (delete_v (String (codes "a")) (Index 0) done) []) 13 ∷ []
     ≡ Some (error_of 6 NoProperties) ∷ Some (error_of 6 NoProperties) ∷ Some (error_of 6 NoProperties) ∷ Some (error_of 6 NotWritable) ∷ Some (error_of 6 NotDeletable) ∷ []
 unfolding computing a n1 done error_of
-r34 = refl
+bases_without_properties = refl
 
 -- ---- arrays' length again
 
 shut : ObjectRecord
 shut = array_of ((0, plain n1) ∷ []) 2 false
 
-r35 : map (define_own_property shut len) (value_descriptor (Number (pos 2)) ∷ record (value_descriptor (Number (pos 2))) { writable = Some true } ∷ value_descriptor (Number (pos 3)) ∷ value_descriptor (Number (pos 1)) ∷ record no_fields { writable = Some false } ∷ record no_fields { configurable = Some true } ∷ record no_fields { enumerable = Some false } ∷ record no_fields { get = Some Undefined } ∷ no_fields ∷ [])
+defines_of_a_fixed_length : map (define_own_property shut len) (value_descriptor (Number (pos 2)) ∷ record (value_descriptor (Number (pos 2))) { writable = Some true } ∷ value_descriptor (Number (pos 3)) ∷ value_descriptor (Number (pos 1)) ∷ record no_fields { writable = Some false } ∷ record no_fields { configurable = Some true } ∷ record no_fields { enumerable = Some false } ∷ record no_fields { get = Some Undefined } ∷ no_fields ∷ [])
     ≡ wrote shut ∷ refused ∷ refused ∷ refused ∷ wrote shut ∷ refused ∷ wrote shut ∷ refused ∷ unchanged ∷ []
 unfolding computing len n1 shut
-r35 = refl
+defines_of_a_fixed_length = refl
 
-r36 : define_own_property shut (Index 1) (data_descriptor n1) ∷ define_own_property shut (Index 2) (data_descriptor n1) ∷ define_own_property shut (Numeral (pos 4294967295)) (data_descriptor n1) ∷ []
+defines_past_a_fixed_length : define_own_property shut (Index 1) (data_descriptor n1) ∷ define_own_property shut (Index 2) (data_descriptor n1) ∷ define_own_property shut (Numeral (pos 4294967295)) (data_descriptor n1) ∷ []
     ≡ wrote (array_of ((0, plain n1) ∷ (1, plain n1) ∷ []) 2 false) ∷ refused ∷ wrote (record shut { named = (codes "4294967295", plain n1) ∷ [] }) ∷ []
 unfolding computing n1 shut
-r36 = refl
+defines_past_a_fixed_length = refl
 
 opened : ObjectRecord
 opened = array_of ((0, plain n1) ∷ (1, stuck n1) ∷ (3, plain n1) ∷ (5, stuck n1) ∷ (8, plain n1) ∷ []) 9 true
 
-r37 : define_own_property opened len (record (value_descriptor (Number (pos 2))) { writable = Some false; enumerable = Some false }) ∷ define_own_property opened len (record (value_descriptor (Number (pos 2))) { enumerable = Some true }) ∷ define_own_property opened len (value_descriptor (Number (pos 6))) ∷ define_own_property opened len (value_descriptor (Number (pos 4294967295))) ∷ []
+lengths_lowered : define_own_property opened len (record (value_descriptor (Number (pos 2))) { writable = Some false; enumerable = Some false }) ∷ define_own_property opened len (record (value_descriptor (Number (pos 2))) { enumerable = Some true }) ∷ define_own_property opened len (value_descriptor (Number (pos 6))) ∷ define_own_property opened len (value_descriptor (Number (pos 4294967295))) ∷ []
     ≡ record { answer = false; written = Some (record opened { class = Array 6 false; indexed = (0, plain n1) ∷ (1, stuck n1) ∷ (3, plain n1) ∷ (5, stuck n1) ∷ [] }) } ∷ refused ∷ wrote (record opened { class = Array 6 true; indexed = (0, plain n1) ∷ (1, stuck n1) ∷ (3, plain n1) ∷ (5, stuck n1) ∷ [] }) ∷ wrote (record opened { class = Array 4294967295 true }) ∷ []
 unfolding computing len n1 stuck opened
-r37 = refl
+lengths_lowered = refl
 
 -- ---- marks of extension and frozen things
 
 marks : List Thing
 marks = AnObject (record (ordinary None ((codes "a", plain n1) ∷ [])) { extensible = false }) ∷ promise Pending [] ∷ AnObject (record (ordinary None ((codes "a", fixed n1) ∷ [])) { extensible = false }) ∷ []
 
-r38 : map (cost marks) (Do (Apply 13 PreventExtensions) (λ b. done) ∷ Do (Apply 14 Freeze) (λ b. Do (Apply 14 Freeze) (λ c. fulfil_promise 14 Null done)) ∷ Do (Apply 15 Freeze) (λ b. done) ∷ Do (Apply 15 (DefineOwnProperty a (value_descriptor n1))) (λ b. done) ∷ Do (Apply 13 (SetPrototypeOf None)) (λ b. done) ∷ put_value (Object 13) (Named (codes "zz")) n1 done ∷ [])
+costs_of_frozen_things : map (cost marks) (Do (Apply 13 PreventExtensions) (λ b. done) ∷ Do (Apply 14 Freeze) (λ b. Do (Apply 14 Freeze) (λ c. fulfil_promise 14 Null done)) ∷ Do (Apply 15 Freeze) (λ b. done) ∷ Do (Apply 15 (DefineOwnProperty a (value_descriptor n1))) (λ b. done) ∷ Do (Apply 13 (SetPrototypeOf None)) (λ b. done) ∷ put_value (Object 13) (Named (codes "zz")) n1 done ∷ [])
     ≡ some_slots 2 ∷ some_slots 2 ∷ nothing ∷ nothing ∷ nothing ∷ some_slots 2 ∷ []
 unfolding computing a n1 done fixed promise marks rom cost
-r38 = refl
+costs_of_frozen_things = refl
 
-r39 : map is_frozen (record (ordinary None ((codes "a", record (getter n1) { configurable = false }) ∷ [])) { extensible = false } ∷ record (ordinary None ((codes "a", getter n1) ∷ [])) { extensible = false } ∷ record (ordinary None ((codes "a", stuck n1) ∷ [])) { extensible = false } ∷ record (array_of [] 0 true) { extensible = false } ∷ record (array_of [] 0 false) { extensible = false } ∷ [])
+frozen_objects : map is_frozen (record (ordinary None ((codes "a", record (getter n1) { configurable = false }) ∷ [])) { extensible = false } ∷ record (ordinary None ((codes "a", getter n1) ∷ [])) { extensible = false } ∷ record (ordinary None ((codes "a", stuck n1) ∷ [])) { extensible = false } ∷ record (array_of [] 0 true) { extensible = false } ∷ record (array_of [] 0 false) { extensible = false } ∷ [])
     ≡ true ∷ false ∷ false ∷ false ∷ true ∷ []
 unfolding computing n1 stuck
-r39 = refl
+frozen_objects = refl
 
-r40 : text_of_number (negsuc 9007199254740990) ∷ text_of_number (pos 0) ∷ text_of_number (pos 9007199254740991) ∷ [] ≡ codes "-9007199254740991" ∷ codes "0" ∷ codes "9007199254740991" ∷ []
-r40 = refl
+texts_of_numbers : text_of_number (negsuc 9007199254740990) ∷ text_of_number (pos 0) ∷ text_of_number (pos 9007199254740991) ∷ [] ≡ codes "-9007199254740991" ∷ codes "0" ∷ codes "9007199254740991" ∷ []
+texts_of_numbers = refl
 
 -- a setter alone reads as undefined; a getter alone refuses a write
-r41 : came (runs (get 13 a Give) with_setter) ∷ came (runs (put_value (Object 13) a n1 done) (AnObject (ordinary None ((codes "a", getter (Object 14)) ∷ [])) ∷ AnObject (function 1) ∷ [])) ∷ [] ≡ Gave Undefined ∷ Threw (Object 15) ∷ []
+accessors_of_one_half : came (runs (get 13 a Give) with_setter) ∷ came (runs (put_value (Object 13) a n1 done) (AnObject (ordinary None ((codes "a", getter (Object 14)) ∷ [])) ∷ AnObject (function 1) ∷ [])) ∷ [] ≡ Gave Undefined ∷ Threw (Object 15) ∷ []
 unfolding computing a n1 done with_setter
-r41 = refl
+accessors_of_one_half = refl
 
 -- a receiver's own accessor or unwritable property refuses what a prototype's data property lets through
 super_set : Property → Came
 super_set p = came (runs (ordinary_set to_number 13 a n1 (Object 14) (λ b. Give (Boolean b))) (AnObject (ordinary None ((codes "a", plain n1) ∷ [])) ∷ AnObject (ordinary None ((codes "a", p) ∷ [])) ∷ AnObject (function 1) ∷ []))
 
-r42 : map super_set (setter (Object 15) ∷ fixed n1 ∷ plain Null ∷ stuck Null ∷ []) ∷ [] ≡ (Gave (Boolean false) ∷ Gave (Boolean false) ∷ Gave (Boolean true) ∷ Gave (Boolean true) ∷ []) ∷ []
+receivers_own_property : map super_set (setter (Object 15) ∷ fixed n1 ∷ plain Null ∷ stuck Null ∷ []) ∷ [] ≡ (Gave (Boolean false) ∷ Gave (Boolean false) ∷ Gave (Boolean true) ∷ Gave (Boolean true) ∷ []) ∷ []
 unfolding computing a n1 fixed stuck super_set
-r42 = refl
+receivers_own_property = refl
 
 -- a write through `super` keeps the property's attributes
-r43 : thing_after (runs (ordinary_set to_number 13 a n1 (Object 14) (λ b. Give (Boolean b))) (AnObject (ordinary None []) ∷ AnObject (ordinary None ((codes "a", record { content = Data Null true; enumerable = false; configurable = false }) ∷ [])) ∷ [])) 14
+attributes_stay_through_super : thing_after (runs (ordinary_set to_number 13 a n1 (Object 14) (λ b. Give (Boolean b))) (AnObject (ordinary None []) ∷ AnObject (ordinary None ((codes "a", record { content = Data Null true; enumerable = false; configurable = false }) ∷ [])) ∷ [])) 14
     ≡ Some (AnObject (ordinary None ((codes "a", record { content = Data n1 true; enumerable = false; configurable = false }) ∷ [])))
 unfolding computing a n1
-r43 = refl
+attributes_stay_through_super = refl
 
 -- the queue is first in, first out; four slots each
-r44 : (after (fulfil_promise 13 Null (promise_then 13 (Object 20) Null (λ d. promise_then 13 (Object 17) Null (λ e. done))))).jobs ≡ FulfilJob (Object 20) 21 Null ∷ FulfilJob (Object 17) 22 Null ∷ []
+queue_in_order : (after (fulfil_promise 13 Null (promise_then 13 (Object 20) Null (λ d. promise_then 13 (Object 17) Null (λ e. done))))).jobs ≡ FulfilJob (Object 20) 21 Null ∷ FulfilJob (Object 17) 22 Null ∷ []
 unfolding computing promise n1 done ps after
-r44 = refl
+queue_in_order = refl
 
 -- a promise that is resolved with a promise with a `then`: two jobs later; here its own `then` is callable
-r45 : (after (resolve_promise 13 (Object 16) done)).jobs ≡ []
+thenable_of_a_promise : (after (resolve_promise 13 (Object 16) done)).jobs ≡ []
 unfolding computing promise n1 done ps after
-r45 = refl
+thenable_of_a_promise = refl
 
 -- a new name isn't added by what stops or is refused
 closed : List Thing
 closed = AnObject (record (ordinary None []) { extensible = false }) ∷ []
 
-r46 : (world_after (runs (put_value (Object 13) (Named (codes "zz")) n1 done) closed)).names ≡ codes "length" ∷ codes "a" ∷ codes "b" ∷ codes "then" ∷ []
+refused_name : (world_after (runs (put_value (Object 13) (Named (codes "zz")) n1 done) closed)).names ≡ codes "length" ∷ codes "a" ∷ codes "b" ∷ codes "then" ∷ []
 unfolding computing n1 done closed
-r46 = refl
+refused_name = refl
 
 -- a define of an accessor: name and slot
-r47 : flat_cost (define_property_or_throw number_expected 13 (Named (codes "q")) getter_of done) ≡ record { slots = 1; units = 0; names = 1 }
+costs_of_an_accessor : flat_cost (define_property_or_throw number_expected 13 (Named (codes "q")) getter_of done) ≡ record { slots = 1; units = 0; names = 1 }
 unfolding computing naming flat_cost getter_of done
-r47 = refl
+costs_of_an_accessor = refl
 
 -- an object's class and prototype stay when it is frozen; an accessor keeps its functions
-r48 : thing_after (runs (Do (Apply 13 Freeze) (λ b. done)) (AnObject (ordinary (Some 0) ((codes "a", getter (Object 3)) ∷ (codes "b", plain n1) ∷ [])) ∷ [])) 13
+frozen_accessor : thing_after (runs (Do (Apply 13 Freeze) (λ b. done)) (AnObject (ordinary (Some 0) ((codes "a", getter (Object 3)) ∷ (codes "b", plain n1) ∷ [])) ∷ [])) 13
     ≡ Some (AnObject (record (ordinary (Some 0) ((codes "a", record (getter (Object 3)) { configurable = false }) ∷ (codes "b", fixed n1) ∷ [])) { extensible = false }))
 unfolding computing n1 fixed done
-r48 = refl
+frozen_accessor = refl
 
 -- the string's own keys
-r49 : came (runs (get_v (String (codes "xy")) (Numeral (negsuc 0)) Give) []) ∷ came (runs (get_v (String []) len Give) []) ∷ came (runs (get_v (String (codes "xy")) (key_of_text (codes "01")) Give) []) ∷ [] ≡ Gave Undefined ∷ Gave (Number (pos 0)) ∷ Gave Undefined ∷ []
+own_keys_of_strings : came (runs (get_v (String (codes "xy")) (Numeral (negsuc 0)) Give) []) ∷ came (runs (get_v (String []) len Give) []) ∷ came (runs (get_v (String (codes "xy")) (key_of_text (codes "01")) Give) []) ∷ [] ≡ Gave Undefined ∷ Gave (Number (pos 0)) ∷ Gave Undefined ∷ []
 unfolding computing len
-r49 = refl
+own_keys_of_strings = refl
 
 -- what counts at the limits: a promise's fulfilment is one event, each job another
-r50 : map came (rom promises 8 (fulfil_promise 13 Null done) ∷ rom promises 7 (fulfil_promise 13 Null done) ∷ rom promises 12 (fulfil_promise 13 Null done) ∷ rom promises 16 (fulfil_promise 13 Null done) ∷ []) ≡ Stopped (OutOf Slots) ∷ Stopped (OutOf Slots) ∷ Stopped (OutOf Slots) ∷ Gave Null ∷ []
+stops_between_events : map came (rom promises 8 (fulfil_promise 13 Null done) ∷ rom promises 7 (fulfil_promise 13 Null done) ∷ rom promises 12 (fulfil_promise 13 Null done) ∷ rom promises 16 (fulfil_promise 13 Null done) ∷ []) ≡ Stopped (OutOf Slots) ∷ Stopped (OutOf Slots) ∷ Stopped (OutOf Slots) ∷ Gave Null ∷ []
 unfolding computing rom promise n1 done reaction promises
-r50 = refl
+stops_between_events = refl
 
-r51 : map used_after (rom promises 8 (fulfil_promise 13 Null done) ∷ rom promises 7 (fulfil_promise 13 Null done) ∷ rom promises 12 (fulfil_promise 13 Null done) ∷ []) ≡ some_slots 8 ∷ nothing ∷ some_slots 12 ∷ []
+counts_at_stops : map used_after (rom promises 8 (fulfil_promise 13 Null done) ∷ rom promises 7 (fulfil_promise 13 Null done) ∷ rom promises 12 (fulfil_promise 13 Null done) ∷ []) ≡ some_slots 8 ∷ nothing ∷ some_slots 12 ∷ []
 unfolding computing rom promise n1 done reaction promises
-r51 = refl
+counts_at_stops = refl
 
-r52 : map used_after (rom promises 2 (promise_then 14 Null Null (λ d. done)) ∷ rom promises 1 (promise_then 14 Null Null (λ d. done)) ∷ rom promises 6 (promise_then 14 Null Null (λ d. done)) ∷ []) ≡ some_slots 2 ∷ nothing ∷ some_slots 2 ∷ []
+counts_of_then_at_stops : map used_after (rom promises 2 (promise_then 14 Null Null (λ d. done)) ∷ rom promises 1 (promise_then 14 Null Null (λ d. done)) ∷ rom promises 6 (promise_then 14 Null Null (λ d. done)) ∷ []) ≡ some_slots 2 ∷ nothing ∷ some_slots 2 ∷ []
 unfolding computing rom promise n1 done reaction promises
-r52 = refl
+counts_of_then_at_stops = refl
 
 -- a promise with a reaction is no rejection; its job has the reaction's second handler
 both : List Thing
 both = promise Pending (record { derived = 14; on_fulfilled = Object 15; on_rejected = Object 16 } ∷ []) ∷ promise Pending [] ∷ AnObject (function 1) ∷ AnObject (function 3) ∷ AnObject (ordinary None ((codes "then", plain (Object 15)) ∷ [])) ∷ AnObject (ordinary None ((codes "toString", plain (Object 17)) ∷ (codes "valueOf", plain (Object 16)) ∷ [])) ∷ AnObject (ordinary None ((codes "toString", plain (Object 16)) ∷ (codes "valueOf", plain (Object 20)) ∷ [])) ∷ AnObject (function 4) ∷ []
 
-r53 : (world_after (runs (reject_promise 13 n1 done) both)).jobs ≡ RejectJob (Object 16) 14 n1 ∷ []
+job_of_a_rejection : (world_after (runs (reject_promise 13 n1 done) both)).jobs ≡ RejectJob (Object 16) 14 n1 ∷ []
 unfolding computing promise n1 done both
-r53 = refl
+job_of_a_rejection = refl
 
-r54 : (world_after (runs (reject_promise 13 n1 done) both)).rejections ≡ []
+no_rejection_with_a_reaction : (world_after (runs (reject_promise 13 n1 done) both)).rejections ≡ []
 unfolding computing promise n1 done both
-r54 = refl
+no_rejection_with_a_reaction = refl
 
 -- a handler that returns a thenable: a job more
 thenable_calls : Calls
 thenable_calls f this vs target s = Ends (NormalCompletion (Object 17)) s
 
-r55 : (world_after (run thenable_calls (run_job (FulfilJob (Object 15) 14 Null)) (state_in (world_of both)))).jobs ≡ ThenableJob 14 (Object 17) (Object 15) ∷ []
+handler_that_gives_a_thenable : (world_after (run thenable_calls (run_job (FulfilJob (Object 15) 14 Null)) (state_in (world_of both)))).jobs ≡ ThenableJob 14 (Object 17) (Object 15) ∷ []
 unfolding computing promise n1 both thenable_calls
-r55 = refl
+handler_that_gives_a_thenable = refl
 
 -- hint string: toString first, then valueOf; 18's toString isn't callable, 19's gives 7
-r56 : came (runs (to_string (Object 18) (λ t. Give (String t))) both) ∷ came (runs (to_string (Object 19) (λ t. Give (String t))) both) ∷ came (runs (to_property_key (Object 19) shown_key) both) ∷ came (runs (to_number (Object 19) (λ n. Give (Number n))) both) ∷ []
+hint_string : came (runs (to_string (Object 18) (λ t. Give (String t))) both) ∷ came (runs (to_string (Object 19) (λ t. Give (String t))) both) ∷ came (runs (to_property_key (Object 19) shown_key) both) ∷ came (runs (to_number (Object 19) (λ n. Give (Number n))) both) ∷ []
     ≡ Gave (String (codes "7")) ∷ Gave (String (codes "7")) ∷ Gave (Number (pos 7)) ∷ Gave (Number (pos 1)) ∷ []
 unfolding computing promise n1 both shown_key
-r56 = refl
+hint_string = refl
 
 -- what built-ins take: no object
-r57 : thing_after (runs (key_expected (Object 18) shown_key) both) 21 ∷ thing_after (runs (number_expected (Object 18) (λ n. done)) both) 21 ∷ thing_after (runs (set_or_throw number_expected 13 (Named (codes "b")) (Object 18) done) both) 21 ∷ []
+objects_refused_by_built_ins : thing_after (runs (key_expected (Object 18) shown_key) both) 21 ∷ thing_after (runs (number_expected (Object 18) (λ n. done)) both) 21 ∷ thing_after (runs (set_or_throw number_expected 13 (Named (codes "b")) (Object 18) done) both) 21 ∷ []
     ≡ Some (error_of 6 PrimitiveExpected) ∷ Some (error_of 6 PrimitiveExpected) ∷ None ∷ []
 unfolding computing promise n1 done both shown_key error_of
-r57 = refl
+objects_refused_by_built_ins = refl
 
 -- the resolving functions themselves
 resolving : Class → Thing
 resolving c = AnObject (record { class = c; prototype = Some 1; extensible = true; indexed = []; named = (codes "length", record { content = Data (Number (pos 1)) false; enumerable = false; configurable = true }) ∷ (codes "name", record { content = Data (String []) false; enumerable = false; configurable = true }) ∷ [] })
 
-r58 : map (thing_after (runs (create_resolving_functions 13 (λ m f g. done)) both)) (21 ∷ 22 ∷ 23 ∷ []) ≡ Some (AMark false) ∷ Some (resolving (ResolveFunction 13 21)) ∷ Some (resolving (RejectFunction 13 21)) ∷ []
+resolving_functions : map (thing_after (runs (create_resolving_functions 13 (λ m f g. done)) both)) (21 ∷ 22 ∷ 23 ∷ []) ≡ Some (AMark false) ∷ Some (resolving (ResolveFunction 13 21)) ∷ Some (resolving (RejectFunction 13 21)) ∷ []
 unfolding computing promise n1 done both resolving
-r58 = refl
+resolving_functions = refl
 
-r59 : thing_after (runs (promise_then 13 Null Null (λ d. done)) both) 21 ≡ Some (promise Pending [])
+derived_promise : thing_after (runs (promise_then 13 Null Null (λ d. done)) both) 21 ≡ Some (promise Pending [])
 unfolding computing promise n1 done both
-r59 = refl
+derived_promise = refl
 
 -- an error's record
-r60 : thing_after (runs (get_v Null a Give) []) 13 ≡ Some (AnObject (record { class = Error; prototype = Some 6; extensible = true; indexed = []; named = (codes "message", record { content = Data (String (codes "no properties of undefined or null")) true; enumerable = false; configurable = true }) ∷ [] }))
+record_of_an_error : thing_after (runs (get_v Null a Give) []) 13 ≡ Some (AnObject (record { class = Error; prototype = Some 6; extensible = true; indexed = []; named = (codes "message", record { content = Data (String (codes "no properties of undefined or null")) true; enumerable = false; configurable = true }) ∷ [] }))
 unfolding computing a
-r60 = refl
+record_of_an_error = refl
 
 -- a const cell that is initialised can't be initialised again
-r61 : came (runs (initialize_cell 14 Null done) cells) ≡ Threw (Object 16)
+const_cell_initialised_once : came (runs (initialize_cell 14 Null done) cells) ≡ Threw (Object 16)
 unfolding computing initialize_cell n1 done cells
-r61 = refl
+const_cell_initialised_once = refl
 
 constructor_of : Option ℕ → Value → ObjectRecord
 constructor_of home p = record { class = ScriptFunction 0 1 home []; prototype = Some 1; extensible = true; indexed = []; named = (codes "prototype", record { content = Data p false; enumerable = false; configurable = false }) ∷ [] }
@@ -488,6 +497,30 @@ attaching : Bool → Act
 attaching is_home = Do (Make (AnObject (constructor_of None Undefined))) (λ f. Do (Make blank) (λ p. Do (Attach f p is_home) (λ _. Give Null)))
 
 -- a class's constructor has its prototype object as its home object, and a plain function has none
-r62 : thing_after (runs (attaching true) []) 13 ∷ thing_after (runs (attaching false) []) 13 ∷ [] ≡ Some (AnObject (constructor_of (Some 14) (Object 14))) ∷ Some (AnObject (constructor_of None (Object 14))) ∷ []
+home_objects : thing_after (runs (attaching true) []) 13 ∷ thing_after (runs (attaching false) []) 13 ∷ [] ≡ Some (AnObject (constructor_of (Some 14) (Object 14))) ∷ Some (AnObject (constructor_of None (Object 14))) ∷ []
 unfolding computing constructor_of attaching
-r62 = refl
+home_objects = refl
+
+-- a rejection is taken back before the job is queued, also where the job stops the run
+late : Ran
+late = run calls (promise_then 18 Null Null (λ d. done)) (state_in (record (world_with (record ample { slots = 5 }) promises []) { rejections = 13 ∷ 18 ∷ [] }))
+
+late_job_stops : came late ≡ Stopped (OutOf Slots)
+unfolding computing promise reaction n1 done promises late
+late_job_stops = refl
+
+late_job_takes_the_rejection_back : (world_after late).rejections ≡ 13 ∷ []
+unfolding computing promise reaction n1 done promises late
+late_job_takes_the_rejection_back = refl
+
+-- the first of two jobs runs, and the other stays
+two_jobs : Ran
+two_jobs = run calls run_first_job (state_in (record (world_of ps) { jobs = FulfilJob Undefined 13 n1 ∷ FulfilJob Undefined 14 Null ∷ [] }))
+
+first_job_leaves_the_queue : (world_after two_jobs).jobs ≡ FulfilJob Undefined 14 Null ∷ []
+unfolding computing promise n1 ps two_jobs
+first_job_leaves_the_queue = refl
+
+first_job_runs : thing_after two_jobs 13 ≡ Some (promise (Fulfilled n1) [])
+unfolding computing promise n1 ps two_jobs
+first_job_runs = refl
