@@ -133,3 +133,18 @@ fn what_no_instruction_spells_is_refused(rt: HostRuntime) -> Result<(), Fail> {
     }
     Ok(())
 }
+
+// No length is taken for a want of memory.
+#[test]
+fn codes_and_lists_are_as_long_as_wanted(rt: HostRuntime) -> Result<(), Fail> {
+    let mut code = CodeBytes::new(rt.alloc());
+    let mut list = CodeList::new(rt.alloc());
+    for number in 0..9_000u16 {
+        encode(&mut code, Op::Long(9_007_199_254_740_991))?;
+        code.push(0x38)?;
+        list.push(number)?;
+    }
+    assert_eq!(rt; code.as_slice().len(), 90_000);
+    assert_eq!(rt; list.as_slice().len(), 9_000);
+    Ok(())
+}

@@ -1,6 +1,6 @@
 //! Number literals (ECMA-262, 12.9.3, without what the language leaves out).
 
-ghost use Rattle.std.specs.Prelude.{◌≡◌, ◌≤◌, take_while};
+ghost use Rattle.std.specs.Prelude.{◌≡◌, ◌≢◌, ◌≤◌, take_while, Err};
 ghost use Rattle.es_model.specs.Tokens.{first_is, goes_on, number_after, number_element, number_literal, is_digit_of};
 ghost use Rattle.js_lexer.specs.Left.{skip};
 ghost use Rattle.js_lexer.specs.Reads.{Reads, found, behind, capped};
@@ -13,9 +13,10 @@ use es_model::{LexFault, TokenKind};
 /// The least whole number that is no Number of the language.
 const TOO_LARGE: u64 = 9_007_199_254_740_992;
 
-/// Takes a number, after its first digit, which stands at `at`.
+/// Takes a number, after its first digit, which stands at `at`. It takes no memory.
 pub fn take_number(at: u32, first: char, left: &mut Characters) -> Result<Found, LexFault>
-    ensures { Reads (found (number_element at first left.old.text) left.old) result left.new }
+    ensures element { Reads (found (number_element at first left.old.text) left.old) result left.new }
+    ensures memory { result ≢ Err LexFault.Memory }
 {
     let value = literal(first, left);
     if is_followed(left) {

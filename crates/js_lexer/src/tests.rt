@@ -322,6 +322,27 @@ fn push_often(text: &mut Vec<u8>, part: &[u8], times: u32) -> Result<(), AllocEr
     Ok(())
 }
 
+// No length is taken for a want of memory.
+#[test]
+fn long_elements(rt: HostRuntime) -> Result<(), Fail> {
+    let rows = [
+        ("", "a", "", 2),
+        ("'", "\u{E9}", "'", 2),
+        ("`", "\u{1F600}", "`", 2),
+        ("/*", "\n", "*/", 1),
+        ("//", " ", "", 1),
+        ("0x", "0", "1", 2),
+    ];
+    for (begin, part, end, tokens) in rows {
+        let mut text = Vec::new(rt.alloc());
+        push_often(&mut text, begin.as_bytes(), 1)?;
+        push_often(&mut text, part.as_bytes(), 70_000)?;
+        push_often(&mut text, end.as_bytes(), 1)?;
+        assert_eq!(rt; count(rt.alloc(), text.as_slice()), Some(tokens));
+    }
+    Ok(())
+}
+
 #[test]
 fn deep_and_long(rt: HostRuntime) -> Result<(), Fail> {
     let mut nested = Vec::new(rt.alloc());

@@ -1,6 +1,6 @@
 //! Names, keywords and signs (ECMA-262, 12.7 and 12.8).
 
-ghost use Rattle.std.specs.Prelude.{◌≡◌, ◌<◌, ◌≤◌, ◌∷◌, ◌++◌, MatchOption, OnOk};
+ghost use Rattle.std.specs.Prelude.{◌≡◌, ◌≢◌, ◌≤◌, ◌∷◌, ◌++◌, Err, MatchOption, OnOk};
 ghost use Rattle.js_value.specs.Text.{utf16};
 ghost use Rattle.es_model.specs.Tokens.{name_element, sign_element};
 ghost use Rattle.js_lexer.specs.Reads.{Finds, Reads, found, sign, word_of};
@@ -53,14 +53,15 @@ pub fn push_character(text: &mut Units, c: char) -> Result<(), AllocError>
     text.push_code_point(c as u32)
 }
 
-/// Takes a sign, after its first character, which stands at `at`.
+/// Takes a sign, after its first character, which stands at `at`. It takes no memory.
 pub fn take_sign(
     words: &Words,
     at: u32,
     first: char,
     left: &mut Characters,
 ) -> Result<Found, LexFault>
-    ensures { Reads (found (sign_element at (first ∷ left.old.text)) left.old) result left.new }
+    ensures element { Reads (found (sign_element at (first ∷ left.old.text)) left.old) result left.new }
+    ensures memory { result ≢ Err LexFault.Memory }
 {
     match longest_sign(words, first, left) {
         Some(place) => Ok(Found::Token(TokenKind::Sign(place))),

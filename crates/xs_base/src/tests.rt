@@ -37,19 +37,51 @@ impl Read for Source {
     }
 }
 
-/// Takes one byte at a time, and no more than `room` bytes.
+/// Takes one byte at a time. Before the byte at the place `fails` it is interrupted once, and then it fails once.
 #[derive(Drop)]
 struct Target {
-    room: u8,
+    taken: usize,
+    fails: usize,
+    faults: u8,
 }
 
 impl Write for Target {
     fn write(&mut self, bytes: &[u8]) -> io::Result<usize> {
-        if self.room == 0 || bytes.is_empty() {
+        if self.taken == self.fails && self.faults < 2 {
+            self.faults += 1;
+            return Err(io::Error::from(if self.faults == 1 {
+                ErrorKind::Interrupted
+            } else {
+                ErrorKind::BrokenPipe
+            }));
+        }
+        if bytes.is_empty() {
             return Ok(0);
         }
-        self.room -= 1;
+        self.taken = self.taken.saturating_add(1);
         Ok(1)
+    }
+
+    fn flush(&mut self) -> io::Result<()> {
+        Ok(())
+    }
+}
+
+fn failing_at(fails: usize) -> Target {
+    Target {
+        taken: 0,
+        fails,
+        faults: 0,
+    }
+}
+
+/// Takes nothing.
+#[derive(Drop)]
+struct Full;
+
+impl Write for Full {
+    fn write(&mut self, _bytes: &[u8]) -> io::Result<usize> {
+        Ok(0)
     }
 
     fn flush(&mut self) -> io::Result<()> {
@@ -153,16 +185,19 @@ fn files_are_written(rt: HostRuntime) -> Result<(), Fail> {
 
 #[test]
 fn sink_over_a_writer(rt: HostRuntime) {
-    let mut sink = RealSink::new(Target { room: 5 });
+    let mut sink = RealSink::new(failing_at(4));
     assert_eq!(rt; sink.write(b"abc"), Ok(()));
     assert_eq!(rt; sink.write(b"def"), Err(WriteFault));
-    assert_eq!(rt; sink.write(b""), Ok(()));
+    assert_eq!(rt; sink.write(b"def"), Ok(()));
+    let mut full = RealSink::new(Full);
+    assert_eq!(rt; full.write(b""), Ok(()));
+    assert_eq!(rt; full.write(b"a"), Err(WriteFault));
 }
 
 // What a buffer holds is known to be written only where it was handed on.
 #[test]
 fn sink_flushes_a_buffer(rt: HostRuntime) -> Result<(), Fail> {
-    let mut sink = RealSink::new(BufWriter::new(rt.alloc(), Target { room: 5 })?);
+    let mut sink = RealSink::new(BufWriter::new(rt.alloc(), failing_at(4))?);
     assert_eq!(rt; sink.write(b"abc"), Ok(()));
     assert_eq!(rt; sink.write(b"def"), Err(WriteFault));
     Ok(())
@@ -195,10 +230,11 @@ fn read(rt: &HostRuntime, name: &str) -> Result<usize, FileFault> {
     Ok(bytes.as_slice().len())
 }
 
-/// Whether the bytes are written, stand on the disk, and are read again.
+/// Whether the bytes are written in place of others, stand on the disk, and are read again.
 fn is_kept(rt: &HostRuntime, name: &str, bytes: &[u8]) -> Result<bool, Fail> {
     let mut files = RealFiles::new(rt);
-    let written = files.write(name, bytes).is_ok();
+    let longer = files.write(name, &[1; 10_000]).is_ok();
+    let written = longer && files.write(name, bytes).is_ok();
     let stands = fs::read(rt, name)?.as_slice() == bytes;
     let given = files.read(rt.alloc(), name)?.as_slice() == bytes;
     fs::remove_file(rt, name)?;
@@ -220,7 +256,6 @@ fn files_that_are_not_read(rt: HostRuntime) {
     assert_eq!(rt; read(&rt, "."), Err(FileFault::Failed));
     assert_eq!(rt; read(&rt, "/dev/null/file"), Err(FileFault::Failed));
     assert_eq!(rt; read(&rt, "/proc/self/mem"), Err(FileFault::Failed));
-    assert_eq!(rt; read(&rt, "/dev/zero"), Err(FileFault::Failed));
 }
 
 #[test]

@@ -26,4 +26,4 @@ pub returns-in_default : goal.returns-in_default
 returns-in_default c =
     reads_same (quoted_element c.args.braces.now c.args.at c.args.first c.args.left.now.text) _ c.args.left.now c.take_sign.result c.take_sign.new.left
     (is_sign c.args.braces.now c.args.at c.args.first c.args.left.now.text (first_of (search rules, omega arith, grind arith)) (first_of (search rules, omega arith, grind arith)) (first_of (search rules, omega arith, grind arith)) (first_of (search rules, omega arith, grind arith)))
-    c.take_sign.ensures
+    c.take_sign.ensures.element
