@@ -2,17 +2,17 @@
 //! (ECMA-262, 14 and 16.2).
 
 ghost use Rattle.std.specs.Prelude.{◌≡◌, ◌∷◌, IfOk, true, false, if◌then◌else◌};
-ghost use Rattle.parser_forms.specs.Begins as b;
+ghost use Rattle.js_parser.specs.Begins as b;
 ghost use Rattle.es_model.specs.Tree as t;
-ghost use Rattle.parser_forms.specs.Ends as e;
+ghost use Rattle.js_parser.specs.Ends as e;
 ghost use Rattle.parser_forms.specs.Kept.{none};
 ghost use Rattle.parser_forms.specs.Parts as p;
-ghost use Rattle.parser_forms.specs.State.{fail, item_part, statement_due, statement_part};
-ghost use Rattle.parser_forms.specs.declared.frame.DeclareRole.TheVariants as d;
-ghost use Rattle.parser_forms.specs.declared.frame.ListRole.TheVariants as l;
-ghost use Rattle.parser_forms.specs.declared.frame.StatementDue.TheVariants as sd;
-ghost use Rattle.parser_forms.specs.declared.frame.Frame.TheVariants as f;
-ghost use Rattle.parser_forms.specs.declared.frame.StatementFrame.TheVariants as s;
+ghost use Rattle.js_parser.specs.State.{fail, item_part, statement_due, statement_part};
+ghost use Rattle.js_parser.specs.declared.frame.DeclareRole.TheVariants as d;
+ghost use Rattle.js_parser.specs.ListRole as l;
+ghost use Rattle.js_parser.specs.StatementDue as sd;
+ghost use Rattle.js_parser.specs.Frame as f;
+ghost use Rattle.js_parser.specs.StatementFrame as s;
 ghost use Rattle.js_parser.specs.Shows.{Shows};
 
 use crate::ends_of_lists::{braces_end, module_end, next_case};

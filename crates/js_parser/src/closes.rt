@@ -2,13 +2,13 @@
 //! statements that it completes; the token is then read.
 
 ghost use Rattle.std.specs.Prelude.{◌≡◌, ◌∷◌, IfOk};
-ghost use Rattle.parser_forms.specs.Begins as b;
+ghost use Rattle.js_parser.specs.Begins as b;
 ghost use Rattle.parser_forms.specs.Kept.{and_then};
-ghost use Rattle.parser_forms.specs.declared.frame.Frame.TheVariants as f;
-ghost use Rattle.parser_forms.specs.declared.frame.ItemFrame.TheVariants as n;
-ghost use Rattle.parser_forms.specs.State.{statement_part};
-ghost use Rattle.parser_forms.specs.declared.frame.StatementDue.TheVariants as sd;
-ghost use Rattle.parser_forms.specs.declared.frame.StatementFrame.TheVariants as s;
+ghost use Rattle.js_parser.specs.Frame as f;
+ghost use Rattle.js_parser.specs.ItemFrame as n;
+ghost use Rattle.js_parser.specs.State.{statement_part};
+ghost use Rattle.js_parser.specs.StatementDue as sd;
+ghost use Rattle.js_parser.specs.StatementFrame as s;
 ghost use Rattle.js_parser.specs.Placing.{Places};
 ghost use Rattle.js_parser.specs.Shows.{Shows};
 

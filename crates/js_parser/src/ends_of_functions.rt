@@ -4,11 +4,11 @@
 ghost use Rattle.std.specs.Prelude.{◌≡◌, ◌∷◌, None, IfOk};
 ghost use Rattle.es_model.specs.declared.kinds.FunctionKind.TheVariants as kinds;
 ghost use Rattle.es_model.specs.declared.kinds.MemberKind.TheVariants as member;
-ghost use Rattle.parser_forms.specs.Ends as e;
+ghost use Rattle.js_parser.specs.Ends as e;
 ghost use Rattle.parser_forms.specs.Kept.{and_then};
-ghost use Rattle.parser_forms.specs.declared.frame.Frame.TheVariants as f;
-ghost use Rattle.parser_forms.specs.declared.frame.MemberFrame.TheVariants as m;
-ghost use Rattle.parser_forms.specs.declared.frame.Signature.TheVariants as g;
+ghost use Rattle.js_parser.specs.Frame as f;
+ghost use Rattle.js_parser.specs.MemberFrame as m;
+ghost use Rattle.js_parser.specs.Signature as g;
 ghost use Rattle.js_parser.specs.Shows.{Shows};
 
 use crate::puts::{open_form, put, put_item};

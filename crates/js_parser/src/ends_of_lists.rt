@@ -3,13 +3,13 @@
 
 ghost use Rattle.std.specs.Prelude.{◌≡◌, ◌∷◌, None, IfOk};
 ghost use Rattle.es_model.specs.declared.kinds.FunctionKind.TheVariants as kinds;
-ghost use Rattle.parser_forms.specs.Ends as e;
+ghost use Rattle.js_parser.specs.Ends as e;
 ghost use Rattle.parser_forms.specs.Kept.{and_then};
 ghost use Rattle.parser_forms.specs.Parts as p;
-ghost use Rattle.parser_forms.specs.declared.frame.Frame.TheVariants as f;
-ghost use Rattle.parser_forms.specs.declared.frame.ItemFrame.TheVariants as n;
-ghost use Rattle.parser_forms.specs.declared.frame.ListRole.TheVariants as l;
-ghost use Rattle.parser_forms.specs.declared.frame.StatementFrame.TheVariants as s;
+ghost use Rattle.js_parser.specs.Frame as f;
+ghost use Rattle.js_parser.specs.ItemFrame as n;
+ghost use Rattle.js_parser.specs.ListRole as l;
+ghost use Rattle.js_parser.specs.StatementFrame as s;
 ghost use Rattle.js_parser.specs.Shows.{Shows};
 
 use crate::ends_of_functions::function_end;

@@ -3,12 +3,12 @@
 ghost use Rattle.std.specs.Prelude.{◌≡◌, [], ◌∷◌, ◌++◌, IfOk, false, if◌then◌else◌};
 ghost use Rattle.parser_forms.specs.Kept.{and_then, none};
 ghost use Rattle.parser_forms.specs.Parts as p;
-ghost use Rattle.parser_forms.specs.Settle as s;
-ghost use Rattle.parser_forms.specs.State.{fail, operand_due, read};
-ghost use Rattle.parser_forms.specs.Tables as t;
-ghost use Rattle.parser_forms.specs.declared.frame.Callee.TheVariants as callee;
-ghost use Rattle.parser_forms.specs.declared.frame.ExpressionFrame.TheVariants as x;
-ghost use Rattle.parser_forms.specs.declared.frame.Frame.TheVariants as f;
+ghost use Rattle.js_parser.specs.Settle as s;
+ghost use Rattle.js_parser.specs.State.{fail, operand_due, read};
+ghost use Rattle.js_parser.specs.Tables as t;
+ghost use Rattle.js_parser.specs.Callee as callee;
+ghost use Rattle.js_parser.specs.ExpressionFrame as x;
+ghost use Rattle.js_parser.specs.Frame as f;
 ghost use Rattle.js_parser.specs.Closes.{Closes};
 ghost use Rattle.js_parser.specs.Shows.{Shows};
 

@@ -1,12 +1,12 @@
 //! Tokens where a part of an expression is due (ECMA-262, 13.3 and 15.3).
 
 ghost use Rattle.std.specs.Prelude.{◌≡◌, ◌∷◌, IfOk, if◌then◌else◌};
-ghost use Rattle.parser_forms.specs.MemberSteps as m;
+ghost use Rattle.js_parser.specs.MemberSteps as m;
 ghost use Rattle.parser_forms.specs.Kept.{none};
-ghost use Rattle.parser_forms.specs.State.{fail, operand_due, the_word};
-ghost use Rattle.parser_forms.specs.declared.frame.Callee.TheVariants as callee;
-ghost use Rattle.parser_forms.specs.declared.frame.ExpressionFrame.TheVariants as x;
-ghost use Rattle.parser_forms.specs.declared.frame.Frame.TheVariants as f;
+ghost use Rattle.js_parser.specs.State.{fail, operand_due, the_word};
+ghost use Rattle.js_parser.specs.Callee as callee;
+ghost use Rattle.js_parser.specs.ExpressionFrame as x;
+ghost use Rattle.js_parser.specs.Frame as f;
 ghost use Rattle.js_parser.specs.Shows.{Shows};
 
 use crate::operands::{opened, operand};

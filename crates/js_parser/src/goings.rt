@@ -1,13 +1,13 @@
 //! A token that goes on with the expression before it (ECMA-262, 13).
 
 ghost use Rattle.std.specs.Prelude.{◌≡◌, ◌∷◌, IfOk, if◌then◌else◌};
-ghost use Rattle.parser_forms.specs.Settle as s;
-ghost use Rattle.parser_forms.specs.Tables as t;
+ghost use Rattle.js_parser.specs.Settle as s;
+ghost use Rattle.js_parser.specs.Tables as t;
 ghost use Rattle.parser_forms.specs.Kept.{none};
-ghost use Rattle.parser_forms.specs.State.{fail, operand_due};
-ghost use Rattle.parser_forms.specs.declared.frame.Callee.TheVariants as callee;
-ghost use Rattle.parser_forms.specs.declared.frame.ExpressionFrame.TheVariants as x;
-ghost use Rattle.parser_forms.specs.declared.frame.Frame.TheVariants as f;
+ghost use Rattle.js_parser.specs.State.{fail, operand_due};
+ghost use Rattle.js_parser.specs.Callee as callee;
+ghost use Rattle.js_parser.specs.ExpressionFrame as x;
+ghost use Rattle.js_parser.specs.Frame as f;
 ghost use Rattle.js_parser.specs.Shows.{Shows};
 
 use crate::operands::{list_of_one, opened};

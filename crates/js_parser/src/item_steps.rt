@@ -3,10 +3,10 @@
 
 ghost use Rattle.std.specs.Prelude.{◌≡◌, ◌++◌, ◌∷◌, [], IfOk, Some, false};
 ghost use Rattle.es_model.specs.Tree as t;
-ghost use Rattle.parser_forms.specs.declared.frame.ItemDue.TheVariants as nd;
-ghost use Rattle.parser_forms.specs.ItemSteps as s;
-ghost use Rattle.parser_forms.specs.Settle.{may};
-ghost use Rattle.parser_forms.specs.State.{the_word};
+ghost use Rattle.js_parser.specs.ItemDue as nd;
+ghost use Rattle.js_parser.specs.ItemSteps as s;
+ghost use Rattle.js_parser.specs.Settle.{may};
+ghost use Rattle.js_parser.specs.State.{the_word};
 ghost use Rattle.js_parser.specs.Shows.{Shows};
 
 use crate::begins::declaration;

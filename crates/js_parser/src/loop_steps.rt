@@ -2,12 +2,12 @@
 //! what is due behind the token. The one error is want of memory.
 
 ghost use Rattle.std.specs.Prelude.{◌≡◌, IfOk};
-ghost use Rattle.parser_forms.specs.State.{the_word};
+ghost use Rattle.js_parser.specs.State.{the_word};
 ghost use Rattle.parser_forms.specs.Kept.{none};
-ghost use Rattle.parser_forms.specs.StatementSteps as s;
-ghost use Rattle.parser_forms.specs.declared.frame.Control.TheVariants as c;
-ghost use Rattle.parser_forms.specs.declared.frame.DeclareRole.TheVariants as d;
-ghost use Rattle.parser_forms.specs.declared.frame.StatementDue.TheVariants as sd;
+ghost use Rattle.js_parser.specs.StatementSteps as s;
+ghost use Rattle.js_parser.specs.Control as c;
+ghost use Rattle.js_parser.specs.declared.frame.DeclareRole.TheVariants as d;
+ghost use Rattle.js_parser.specs.StatementDue as sd;
 ghost use Rattle.js_parser.specs.Shows.{Shows};
 
 use crate::closes::close;

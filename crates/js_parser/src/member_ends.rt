@@ -3,11 +3,11 @@
 ghost use Rattle.std.specs.Prelude.{◌≡◌, ◌∷◌, IfOk, None, Some};
 ghost use Rattle.parser_forms.specs.Kept.{none};
 ghost use Rattle.parser_forms.specs.Parts as p;
-ghost use Rattle.parser_forms.specs.Settle as s;
-ghost use Rattle.parser_forms.specs.State.{member_part, the_word};
-ghost use Rattle.parser_forms.specs.declared.frame.Frame.TheVariants as f;
-ghost use Rattle.parser_forms.specs.declared.frame.MemberDue.TheVariants as md;
-ghost use Rattle.parser_forms.specs.declared.frame.MemberFrame.TheVariants as m;
+ghost use Rattle.js_parser.specs.Settle as s;
+ghost use Rattle.js_parser.specs.State.{member_part, the_word};
+ghost use Rattle.js_parser.specs.Frame as f;
+ghost use Rattle.js_parser.specs.MemberDue as md;
+ghost use Rattle.js_parser.specs.MemberFrame as m;
 ghost use Rattle.js_parser.specs.Shows.{Shows};
 
 use crate::closes::close_item;

@@ -4,13 +4,13 @@
 ghost use Rattle.std.specs.Prelude.{◌≡◌, [], codes, None, Some, IfOk, false};
 ghost use Rattle.es_model.specs.Tree as t;
 ghost use Rattle.es_model.specs.declared.kinds.MemberKind.TheVariants as member;
-ghost use Rattle.parser_forms.specs.MemberSteps as s;
+ghost use Rattle.js_parser.specs.MemberSteps as s;
 ghost use Rattle.parser_forms.specs.Parts as p;
-ghost use Rattle.parser_forms.specs.State.{the_word};
-ghost use Rattle.parser_forms.specs.declared.frame.Control.TheVariants as c;
-ghost use Rattle.parser_forms.specs.declared.frame.MemberDue.TheVariants as md;
-ghost use Rattle.parser_forms.specs.declared.frame.Signature.TheVariants as g;
-ghost use Rattle.parser_forms.specs.declared.words.Word.TheVariants as w;
+ghost use Rattle.js_parser.specs.State.{the_word};
+ghost use Rattle.js_parser.specs.Control as c;
+ghost use Rattle.js_parser.specs.MemberDue as md;
+ghost use Rattle.js_parser.specs.Signature as g;
+ghost use Rattle.js_parser.specs.declared.words.Word.TheVariants as w;
 ghost use Rattle.js_parser.specs.Shows.{Shows};
 
 use crate::object_ends::object_next;

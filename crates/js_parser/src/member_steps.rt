@@ -2,11 +2,11 @@
 //! of them, and gives what is due behind the token. The one error is want of memory.
 
 ghost use Rattle.std.specs.Prelude.{◌∷◌, IfOk, false};
-ghost use Rattle.parser_forms.specs.MemberSteps as s;
-ghost use Rattle.parser_forms.specs.State.{the_word};
-ghost use Rattle.parser_forms.specs.declared.frame.Frame.TheVariants as f;
-ghost use Rattle.parser_forms.specs.declared.frame.MemberFrame.TheVariants as m;
-ghost use Rattle.parser_forms.specs.declared.words.Word.TheVariants as w;
+ghost use Rattle.js_parser.specs.MemberSteps as s;
+ghost use Rattle.js_parser.specs.State.{the_word};
+ghost use Rattle.js_parser.specs.Frame as f;
+ghost use Rattle.js_parser.specs.MemberFrame as m;
+ghost use Rattle.js_parser.specs.declared.words.Word.TheVariants as w;
 ghost use Rattle.js_parser.specs.Shows.{Shows};
 
 use crate::ends_of_functions::class_end;

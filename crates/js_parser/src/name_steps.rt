@@ -4,10 +4,10 @@
 ghost use Rattle.std.specs.Prelude.{◌≡◌, IfOk, None};
 ghost use Rattle.parser_forms.specs.Kept.{and_then};
 ghost use Rattle.parser_forms.specs.Parts as p;
-ghost use Rattle.parser_forms.specs.Settle as settle;
-ghost use Rattle.parser_forms.specs.State.{the_word};
-ghost use Rattle.parser_forms.specs.StatementSteps as s;
-ghost use Rattle.parser_forms.specs.declared.frame.DeclareRole.TheVariants as d;
+ghost use Rattle.js_parser.specs.Settle as settle;
+ghost use Rattle.js_parser.specs.State.{the_word};
+ghost use Rattle.js_parser.specs.StatementSteps as s;
+ghost use Rattle.js_parser.specs.declared.frame.DeclareRole.TheVariants as d;
 ghost use Rattle.js_parser.specs.Shows.{Shows};
 
 use crate::closes::close;

@@ -1,9 +1,9 @@
 //! What stands behind a member of an object literal (ECMA-262, 13.2.5).
 
 ghost use Rattle.std.specs.Prelude.{◌∷◌, IfOk};
-ghost use Rattle.parser_forms.specs.Settle as settle;
-ghost use Rattle.parser_forms.specs.declared.frame.Frame.TheVariants as f;
-ghost use Rattle.parser_forms.specs.declared.frame.MemberFrame.TheVariants as m;
+ghost use Rattle.js_parser.specs.Settle as settle;
+ghost use Rattle.js_parser.specs.Frame as f;
+ghost use Rattle.js_parser.specs.MemberFrame as m;
 ghost use Rattle.js_parser.specs.Shows.{Shows};
 
 use crate::puts::open_form;

@@ -1,15 +1,15 @@
 //! The tokens with which an operand begins, and those that may stand in its place (ECMA-262, 13).
 
 ghost use Rattle.std.specs.Prelude.{◌≡◌, [], ◌∷◌, Some, IfOk, true};
-ghost use Rattle.parser_forms.specs.Begins as b;
+ghost use Rattle.js_parser.specs.Begins as b;
 ghost use Rattle.parser_forms.specs.Kept.{none};
-ghost use Rattle.parser_forms.specs.State.{member_part, operand_due};
-ghost use Rattle.parser_forms.specs.Tables as t;
-ghost use Rattle.parser_forms.specs.declared.frame.ExpressionFrame.TheVariants as x;
-ghost use Rattle.parser_forms.specs.declared.frame.Frame.TheVariants as f;
-ghost use Rattle.parser_forms.specs.declared.frame.Infix.TheVariants as i;
-ghost use Rattle.parser_forms.specs.declared.frame.MemberDue.TheVariants as md;
-ghost use Rattle.parser_forms.specs.declared.frame.MemberFrame.TheVariants as m;
+ghost use Rattle.js_parser.specs.State.{member_part, operand_due};
+ghost use Rattle.js_parser.specs.Tables as t;
+ghost use Rattle.js_parser.specs.ExpressionFrame as x;
+ghost use Rattle.js_parser.specs.Frame as f;
+ghost use Rattle.parser_forms.specs.declared.kinds.Infix.TheVariants as i;
+ghost use Rattle.js_parser.specs.MemberDue as md;
+ghost use Rattle.js_parser.specs.MemberFrame as m;
 ghost use Rattle.es_model.specs.declared.token.TokenKind.TheVariants as k;
 ghost use Rattle.js_parser.specs.Shows.{Shows};
 

@@ -1,12 +1,12 @@
 //! What is done where a form is complete and no token is left over: it is put into the form round it.
 
 ghost use Rattle.std.specs.Prelude.{◌≡◌, ◌∷◌, IfOk};
-ghost use Rattle.parser_forms.specs.Ends as e;
+ghost use Rattle.js_parser.specs.Ends as e;
 ghost use Rattle.parser_forms.specs.Kept.{and_then};
-ghost use Rattle.parser_forms.specs.State.{statement_due};
-ghost use Rattle.parser_forms.specs.declared.frame.Frame.TheVariants as f;
-ghost use Rattle.parser_forms.specs.declared.frame.ItemFrame.TheVariants as n;
-ghost use Rattle.parser_forms.specs.declared.frame.StatementFrame.TheVariants as s;
+ghost use Rattle.js_parser.specs.State.{statement_due};
+ghost use Rattle.js_parser.specs.Frame as f;
+ghost use Rattle.js_parser.specs.ItemFrame as n;
+ghost use Rattle.js_parser.specs.StatementFrame as s;
 ghost use Rattle.js_parser.specs.Placing.{Places};
 ghost use Rattle.js_parser.specs.Shows.{Shows};
 

@@ -2,10 +2,10 @@
 
 ghost use Rattle.std.specs.Prelude.{◌≡◌, ◌≢◌, ◌≤◌, ◌↔◌, [], ◌∷◌, Err, IsTrue, length};
 ghost use Rattle.parser_forms.specs.Kept.{none};
-ghost use Rattle.parser_forms.specs.Machine.{answer, kept_answer, last_answer};
-ghost use Rattle.parser_forms.specs.declared.frame.Control.TheVariants as c;
-ghost use Rattle.parser_forms.specs.declared.frame.Frame.TheVariants as f;
-ghost use Rattle.parser_forms.specs.declared.frame.ItemFrame.TheVariants as n;
+ghost use Rattle.js_parser.specs.Machine.{answer, kept_answer, last_answer};
+ghost use Rattle.js_parser.specs.Control as c;
+ghost use Rattle.js_parser.specs.Frame as f;
+ghost use Rattle.js_parser.specs.ItemFrame as n;
 ghost use Rattle.js_parser.specs.Parsed.{Answers, EndsLast, result_of};
 ghost use Rattle.js_parser.specs.declared.fault.ParseFault.TheVariants as fault;
 

@@ -2,7 +2,7 @@
 //! for it.
 
 ghost use Rattle.std.specs.Prelude.{IfOk};
-ghost use Rattle.parser_forms.specs.Settle as s;
+ghost use Rattle.js_parser.specs.Settle as s;
 ghost use Rattle.js_parser.specs.Closes.{Closes};
 ghost use Rattle.js_parser.specs.Shows.{Shows};
 

@@ -3,12 +3,12 @@
 ghost use Rattle.std.specs.Prelude.{◌≡◌, ◌∷◌, IfOk, Some};
 ghost use Rattle.parser_forms.specs.Kept.{and_then, none};
 ghost use Rattle.parser_forms.specs.Parts as p;
-ghost use Rattle.parser_forms.specs.Settle as s;
-ghost use Rattle.parser_forms.specs.State.{statement_due, statement_part, the_word};
-ghost use Rattle.parser_forms.specs.declared.frame.Frame.TheVariants as f;
-ghost use Rattle.parser_forms.specs.declared.frame.ListRole.TheVariants as l;
-ghost use Rattle.parser_forms.specs.declared.frame.StatementDue.TheVariants as sd;
-ghost use Rattle.parser_forms.specs.declared.frame.StatementFrame.TheVariants as st;
+ghost use Rattle.js_parser.specs.Settle as s;
+ghost use Rattle.js_parser.specs.State.{statement_due, statement_part, the_word};
+ghost use Rattle.js_parser.specs.Frame as f;
+ghost use Rattle.js_parser.specs.ListRole as l;
+ghost use Rattle.js_parser.specs.StatementDue as sd;
+ghost use Rattle.js_parser.specs.StatementFrame as st;
 ghost use Rattle.js_parser.specs.Shows.{Shows};
 
 use crate::closes::close;

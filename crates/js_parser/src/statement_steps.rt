@@ -3,11 +3,11 @@
 
 ghost use Rattle.std.specs.Prelude.{◌≡◌, ◌∷◌, IfOk, None};
 ghost use Rattle.parser_forms.specs.Parts as p;
-ghost use Rattle.parser_forms.specs.Settle.{statement_end};
-ghost use Rattle.parser_forms.specs.State.{operand_due, statement_due, the_word};
-ghost use Rattle.parser_forms.specs.StatementSteps as s;
-ghost use Rattle.parser_forms.specs.declared.frame.Frame.TheVariants as f;
-ghost use Rattle.parser_forms.specs.declared.frame.StatementDue.TheVariants as sd;
+ghost use Rattle.js_parser.specs.Settle.{statement_end};
+ghost use Rattle.js_parser.specs.State.{operand_due, statement_due, the_word};
+ghost use Rattle.js_parser.specs.StatementSteps as s;
+ghost use Rattle.js_parser.specs.Frame as f;
+ghost use Rattle.js_parser.specs.StatementDue as sd;
 ghost use Rattle.js_parser.specs.Shows.{Shows};
 
 use crate::closes::close;

@@ -1,8 +1,8 @@
 //! What a token makes of a state, by what is due or was read.
 
 ghost use Rattle.std.specs.Prelude.{IfOk};
-ghost use Rattle.parser_forms.specs.Machine as m;
-ghost use Rattle.parser_forms.specs.State.{state};
+ghost use Rattle.js_parser.specs.Machine as m;
+ghost use Rattle.js_parser.specs.State.{state};
 ghost use Rattle.js_parser.specs.Shows.{Shows};
 
 use crate::begins::begin;

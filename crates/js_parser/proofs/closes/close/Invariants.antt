@@ -1,6 +1,6 @@
 -- What `close` has come to: a form that is complete is put into the forms that are left.
 use Rattle.std.proofs.Common.{◌≡◌, length}
-use Rattle.parser_forms.specs.Begins as b
+use Rattle.js_parser.specs.Begins as b
 use Rattle.js_parser.proofs.closes.close.Given as goal
 
 abbrev pub invariant-loop-frame : goal.invariant-loop-frame

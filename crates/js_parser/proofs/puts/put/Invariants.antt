@@ -1,6 +1,6 @@
 -- What `put` has come to: a form that is complete is put into the forms that are left.
 use Rattle.std.proofs.Common.{◌≡◌, length}
-use Rattle.parser_forms.specs.Ends as e
+use Rattle.js_parser.specs.Ends as e
 use Rattle.js_parser.proofs.puts.put.Given as goal
 
 abbrev pub invariant-loop-frame : goal.invariant-loop-frame

@@ -1,6 +1,6 @@
 use Rattle.std.proofs.Common.{◌≡◌, drop}
-use Rattle.parser_forms.specs.State.{state}
-use Rattle.parser_forms.specs.Machine.{answer, answer_from}
+use Rattle.js_parser.specs.State.{state}
+use Rattle.js_parser.specs.Machine.{answer, answer_from}
 use Rattle.js_parser.proofs.reading.read.Given as goal
 
 -- what the tokens that are left answer is what all of them do

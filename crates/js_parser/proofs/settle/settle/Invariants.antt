@@ -1,5 +1,5 @@
 use Rattle.std.proofs.Common.{◌≡◌, length}
-use Rattle.parser_forms.specs.Settle.{settle}
+use Rattle.js_parser.specs.Settle.{settle}
 use Rattle.js_parser.proofs.settle.settle.Given as goal
 
 -- what is left to settle makes the same
