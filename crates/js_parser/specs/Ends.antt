@@ -2,8 +2,6 @@
 use Rattle.std.specs.Prelude.{ℕ, Bool, true, false, ◌||◌, List, [], ◌∷◌, Option, Some, None}
 use Rattle.es_model.specs.declared.kinds.FunctionKind.{FunctionKind}
 use Rattle.es_model.specs.declared.kinds.FunctionKind.TheVariants as kind
-use Rattle.es_model.specs.declared.kinds.MemberKind.{MemberKind}
-use Rattle.es_model.specs.declared.kinds.MemberKind.TheVariants as member
 use Rattle.es_model.specs.declared.names.Identifier.{Identifier}
 use Rattle.es_model.specs.Tree as t
 use Rattle.js_parser.specs.declared.words.Word.{Word}

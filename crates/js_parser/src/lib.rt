@@ -1,7 +1,23 @@
 //! The parser: the one tree that the tokens of a text spell.
 #![tactic(auto)]
 
+mod begins;
+mod closes;
+mod ends_of_functions;
+mod ends_of_lists;
+mod expression_ends;
+mod expression_steps;
+mod fault;
 mod frame;
 mod function_steps;
+mod item_steps;
+mod member_ends;
+mod member_steps;
+mod operands;
+mod puts;
+mod settle;
+mod statement_ends;
+mod statement_steps;
 mod tables;
+mod texts;
 mod words;
