@@ -15,9 +15,14 @@ mod member_ends;
 mod member_steps;
 mod operands;
 mod puts;
+mod reading;
 mod settle;
 mod statement_ends;
 mod statement_steps;
+mod step;
 mod tables;
 mod texts;
 mod words;
+
+pub use fault::ParseFault;
+pub use reading::module;

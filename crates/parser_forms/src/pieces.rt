@@ -81,6 +81,11 @@ impl Stack<Piece> {
         self.push(Piece::Nothing)
     }
 
+    /// Lets all pieces go.
+    pub fn let_go(self) {
+        lose(self)
+    }
+
     /// Lets the last value go.
     pub fn forget(&mut self)
         ensures { self.new ≡ rest self.old }
