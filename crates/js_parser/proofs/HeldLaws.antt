@@ -1,11 +1,11 @@
 -- What a reading goes on with, where the code has the state that a token makes.
-use Rattle.std.proofs.Common.{◌≡◌, ◌≢◌, ap, sym, ◌∙◌, ℕ, suc, ◌+◌, arith, List, [], ◌∷◌}
+use Rattle.std.proofs.Common.{◌≡◌, ◌≢◌, ap, sym, ◌∙◌, ℕ, suc, ◌+◌, arith, List, ◌∷◌}
 use Rattle.es_model.specs.declared.token.Token.{Token}
 use Rattle.es_model.specs.Readings.{Tokens}
 use Rattle.parser_forms.specs.Pieces.{Pieces}
 use Rattle.js_parser.specs.Control as c
 use Rattle.js_parser.specs.State.{Frames, State, state}
-use Rattle.js_parser.specs.Machine.{Answer, step, answer_from, unless_failed}
+use Rattle.js_parser.specs.Machine.{step, answer_from, unless_failed}
 use Rattle.js_parser.specs.Held.{held, control, under_control, frames}
 use Rattle.js_parser.specs.Shows.{Shows}
 use Rattle.js_parser.specs.declared.frame.Control as the_control
