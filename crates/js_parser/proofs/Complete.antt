@@ -5,14 +5,14 @@ use Rattle.es_model.specs.Tree as t
 use Rattle.es_model.specs.Tree.{Tree}
 use Rattle.es_model.specs.Readings.{Tokens, One}
 use Rattle.es_model.specs.Spelling.{Spells, spells, sequence}
-use Rattle.parser_forms.specs.declared.frame.Frame.TheVariants as f
-use Rattle.parser_forms.specs.declared.frame.ItemFrame.TheVariants as n
-use Rattle.parser_forms.specs.declared.frame.Control.TheVariants as c
+use Rattle.js_parser.specs.Frame as f
+use Rattle.js_parser.specs.ItemFrame as n
+use Rattle.js_parser.specs.Control as c
 use Rattle.parser_forms.specs.Kept.{followed}
-use Rattle.parser_forms.specs.Cut.{cut}
-use Rattle.parser_forms.specs.State.{Frames, state, statement_due}
-use Rattle.parser_forms.specs.Machine.{run, start}
-use Rattle.parser_forms.proofs.Laws.{cut_none}
+use Rattle.js_parser.specs.Cut.{cut}
+use Rattle.js_parser.specs.State.{Frames, state, statement_due}
+use Rattle.js_parser.specs.Machine.{run, start}
+use Rattle.js_parser.proofs.Laws.{cut_none}
 use Rattle.js_parser.proofs.CompleteBase.{takes, Reads, Each, Maybe, appended, appended_none}
 use Rattle.js_parser.proofs.CompleteFirst.{first_item}
 use Rattle.js_parser.proofs.CompleteClaims.{Behind, behind_at, starts_behind, ReadsStatement, ReadsBody, ReadsFunction, ReadsKey, ReadsMember, ReadsClass, ReadsDeclarator, ReadsHead, ReadsCase, ReadsDefault}

@@ -13,19 +13,19 @@ use Rattle.es_model.specs.Tree.{Tree, Text}
 use Rattle.es_model.specs.Levels.{left_level, operator_level, level, is_bare_new, has_call}
 use Rattle.es_model.specs.declared.names.Identifier.{Identifier}
 use Rattle.es_model.specs.Readings.{Tokens, One, First, word, name, property, plain_name}
-use Rattle.parser_forms.specs.declared.words.Word.{Word}
-use Rattle.parser_forms.specs.declared.words.Word.TheVariants as w
-use Rattle.parser_forms.specs.declared.frame.Infix.{Infix}
-use Rattle.parser_forms.specs.declared.frame.Infix.TheVariants as i
-use Rattle.parser_forms.specs.declared.frame.Frame.{Frame}
+use Rattle.js_parser.specs.declared.words.Word.{Word}
+use Rattle.js_parser.specs.declared.words.Word.TheVariants as w
+use Rattle.parser_forms.specs.declared.kinds.Infix.{Infix}
+use Rattle.parser_forms.specs.declared.kinds.Infix.TheVariants as i
+use Rattle.js_parser.specs.Frame.{Frame}
 use Rattle.parser_forms.specs.declared.parts.Part.{Part}
-use Rattle.parser_forms.specs.Words.{word_of}
-use Rattle.parser_forms.specs.Tables.{infix_of, assignment_of, gives, slot, slot_of}
-use Rattle.parser_forms.specs.State.{Frames, State, operand_due, read, the_word}
-use Rattle.parser_forms.specs.Settle.{settle, taken, closed}
-use Rattle.parser_forms.specs.MemberSteps.{property as with_property}
+use Rattle.js_parser.specs.Words.{word_of}
+use Rattle.js_parser.specs.Tables.{infix_of, assignment_of, gives, slot, slot_of}
+use Rattle.js_parser.specs.State.{Frames, State, operand_due, read, the_word}
+use Rattle.js_parser.specs.Settle.{settle, taken, closed}
+use Rattle.js_parser.specs.MemberSteps.{property as with_property}
 use Rattle.parser_forms.specs.Kept.{followed}
-use Rattle.parser_forms.specs.Machine.{run, step}
+use Rattle.js_parser.specs.Machine.{run, step}
 use Rattle.es_model.specs.Spelling.{Spells}
 use Rattle.js_parser.specs.Summary.{part_of}
 

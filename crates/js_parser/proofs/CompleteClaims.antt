@@ -6,19 +6,19 @@ use Rattle.es_model.specs.Tree.{Tree}
 use Rattle.es_model.specs.Levels.{is_declaration, ends_in_short_if}
 use Rattle.es_model.specs.Readings.{Tokens, One, word}
 use Rattle.es_model.specs.Spelling.{Spells, sequence, braces}
-use Rattle.parser_forms.specs.declared.words.Word.{Word}
-use Rattle.parser_forms.specs.declared.words.Word.TheVariants as w
-use Rattle.parser_forms.specs.declared.frame.Frame.TheVariants as f
-use Rattle.parser_forms.specs.declared.frame.StatementFrame.TheVariants as s
-use Rattle.parser_forms.specs.declared.frame.ListRole.{ListRole}
+use Rattle.js_parser.specs.declared.words.Word.{Word}
+use Rattle.js_parser.specs.declared.words.Word.TheVariants as w
+use Rattle.js_parser.specs.Frame as f
+use Rattle.js_parser.specs.StatementFrame as s
+use Rattle.js_parser.specs.ListRole.{ListRole}
 use Rattle.parser_forms.specs.Kept.{none, followed}
-use Rattle.parser_forms.specs.Cut.{cut}
-use Rattle.parser_forms.specs.Words.{word_of}
-use Rattle.parser_forms.specs.State.{Frames, State, statement_due, the_word}
-use Rattle.parser_forms.specs.Ends.{put, list_end}
-use Rattle.parser_forms.specs.Begins.{in_list}
-use Rattle.parser_forms.specs.Machine.{run, step}
-use Rattle.parser_forms.proofs.Laws.{cut_none, cut_and_then}
+use Rattle.js_parser.specs.Cut.{cut}
+use Rattle.js_parser.specs.Words.{word_of}
+use Rattle.js_parser.specs.State.{Frames, State, statement_due, the_word}
+use Rattle.js_parser.specs.Ends.{put, list_end}
+use Rattle.js_parser.specs.Begins.{in_list}
+use Rattle.js_parser.specs.Machine.{run, step}
+use Rattle.js_parser.proofs.Laws.{cut_none, cut_and_then}
 use Rattle.js_parser.proofs.CompleteBase.{takes, place, line, Reads, Each, Maybe, appended, appended_none}
 use Rattle.js_parser.proofs.CompleteFirst.{Starts, starts_at, is_behind, first_statement}
 

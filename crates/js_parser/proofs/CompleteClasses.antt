@@ -11,23 +11,24 @@ use Rattle.es_model.specs.Tree.{Tree}
 use Rattle.es_model.specs.Levels.{InClass, is_constructor_key}
 use Rattle.es_model.specs.Readings.{Tokens, One, the, maybe_name, word, ◌▸◌}
 use Rattle.es_model.specs.Spelling.{Spells, member_function_kind, AsMember, class_members, Semicolons, no_more, one_more, class_name}
-use Rattle.parser_forms.specs.declared.words.Word.{Word}
-use Rattle.parser_forms.specs.declared.words.Word.TheVariants as w
-use Rattle.parser_forms.specs.declared.frame.Frame.TheVariants as f
-use Rattle.parser_forms.specs.declared.frame.MemberFrame.TheVariants as mf
-use Rattle.parser_forms.specs.declared.frame.MemberDue.TheVariants as md
-use Rattle.parser_forms.specs.declared.frame.ClassStart.{ClassStart}
-use Rattle.parser_forms.specs.declared.frame.Role.{Role}
-use Rattle.parser_forms.specs.declared.frame.Role.TheVariants as role
-use Rattle.parser_forms.specs.Words.{word_of}
+use Rattle.js_parser.specs.declared.words.Word.{Word}
+use Rattle.js_parser.specs.declared.words.Word.TheVariants as w
+use Rattle.js_parser.specs.Frame as f
+use Rattle.js_parser.specs.MemberFrame as mf
+use Rattle.js_parser.specs.MemberDue as md
+use Rattle.js_parser.specs.ClassStart.{ClassStart}
+use Rattle.js_parser.specs.declared.frame.Role.{Role}
+use Rattle.js_parser.specs.declared.frame.Role.TheVariants as role
+use Rattle.js_parser.specs.Words.{word_of}
 use Rattle.parser_forms.specs.Kept.{Sorted, none, and_then, followed}
-use Rattle.parser_forms.specs.Cut.{cut}
-use Rattle.parser_forms.specs.State.{Frames, State, operand_due, read, member_part, the_word}
-use Rattle.parser_forms.specs.Ends.{put, put_item, class_end_as, method_kind, is_derived}
-use Rattle.parser_forms.specs.MemberSteps.{start_of, member_start, class_member, fixed_member, class_next, class_name as own_name}
+use Rattle.js_parser.specs.Cut.{cut}
+use Rattle.js_parser.specs.State.{Frames, State, operand_due, read, member_part, the_word}
+use Rattle.js_parser.specs.Ends.{put, put_item, class_end_as, is_derived}
+use Rattle.parser_forms.specs.Parts.{method_kind}
+use Rattle.js_parser.specs.MemberSteps.{start_of, member_start, class_member, fixed_member, class_next, class_name as own_name}
 use Rattle.parser_forms.specs.Parts as p
-use Rattle.parser_forms.specs.Machine.{run}
-use Rattle.parser_forms.proofs.Laws.{cut_none, cut_and_then}
+use Rattle.js_parser.specs.Machine.{run}
+use Rattle.js_parser.proofs.Laws.{cut_none, cut_and_then}
 use Rattle.js_parser.proofs.CompleteBase.{takes, takes_name, here_at, follows, place, Reads, Each, appended, appended_none, reach, grips}
 use Rattle.js_parser.proofs.CompleteClaims.{ReadsFunction, ReadsKey, ReadsMember, ReadsClass}
 use Rattle.js_parser.proofs.CompleteKeys.{Keyed, IsFunction, is_key_start, is_static, starts_start, no_start, static_key}

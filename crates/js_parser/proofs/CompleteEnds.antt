@@ -8,21 +8,21 @@ use Rattle.es_model.specs.declared.token.Token.{Token}
 use Rattle.es_model.specs.Tree as t
 use Rattle.es_model.specs.Readings as readings
 use Rattle.es_model.specs.Readings.{Tokens, First, the, any_of, word, semicolon}
-use Rattle.parser_forms.specs.declared.words.Word.{Word}
-use Rattle.parser_forms.specs.declared.words.Word.TheVariants as w
+use Rattle.js_parser.specs.declared.words.Word.{Word}
+use Rattle.js_parser.specs.declared.words.Word.TheVariants as w
 use Rattle.parser_forms.specs.declared.parts.Part.{Part}
-use Rattle.parser_forms.specs.declared.frame.Frame.{Frame}
-use Rattle.parser_forms.specs.declared.frame.Frame.TheVariants as f
-use Rattle.parser_forms.specs.declared.frame.StatementFrame.TheVariants as s
-use Rattle.parser_forms.specs.declared.frame.ItemFrame.TheVariants as n
+use Rattle.js_parser.specs.Frame.{Frame}
+use Rattle.js_parser.specs.Frame as f
+use Rattle.js_parser.specs.StatementFrame as s
+use Rattle.js_parser.specs.ItemFrame as n
 use Rattle.parser_forms.specs.Kept.{Sorted}
-use Rattle.parser_forms.specs.Tables.{slot_of, gives, is_semicolon, may_miss, may_miss_bare}
-use Rattle.parser_forms.specs.State.{Frames, State, operand_due, read, statement_due, the_word}
-use Rattle.parser_forms.specs.Ends.{put, put_item}
-use Rattle.parser_forms.specs.Begins.{statement_word, operand, close, close_item}
-use Rattle.parser_forms.specs.Settle.{settle, closed, statement_end, item_end, may}
+use Rattle.js_parser.specs.Tables.{slot_of, gives, is_semicolon, may_miss, may_miss_bare}
+use Rattle.js_parser.specs.State.{Frames, State, operand_due, read, statement_due, the_word}
+use Rattle.js_parser.specs.Ends.{put, put_item}
+use Rattle.js_parser.specs.Begins.{statement_word, operand, close, close_item}
+use Rattle.js_parser.specs.Settle.{settle, closed, statement_end, item_end, may}
 use Rattle.parser_forms.specs.Parts as p
-use Rattle.parser_forms.specs.Machine.{run, step}
+use Rattle.js_parser.specs.Machine.{run, step}
 use Rattle.js_parser.proofs.CompleteBase.{takes, follows, place, line, needs, Follow, if_false, gives_needs}
 use Rattle.js_parser.proofs.CompleteFirst.{Starts, begins}
 use Rattle.js_parser.proofs.WordLaws.{may_miss_is, begins_no_value, no_value_is}

@@ -10,10 +10,10 @@ use Rattle.es_model.specs.Tree.{Tree, Text}
 use Rattle.es_model.specs.Levels.{unary_sign}
 use Rattle.es_model.specs.Readings.{Tokens, One, the, name, word}
 use Rattle.es_model.specs.Spelling.{Spells, pieces, step, AsExpression, AsStatement, arrow_names, declaring_word}
-use Rattle.parser_forms.specs.declared.words.Word.{Word}
-use Rattle.parser_forms.specs.declared.words.Word.TheVariants as w
-use Rattle.parser_forms.specs.Words.{word_of}
-use Rattle.parser_forms.specs.State.{the_word}
+use Rattle.js_parser.specs.declared.words.Word.{Word}
+use Rattle.js_parser.specs.declared.words.Word.TheVariants as w
+use Rattle.js_parser.specs.Words.{word_of}
+use Rattle.js_parser.specs.State.{the_word}
 
 -- a word with which an expression may begin
 abbrev pub begins : Word → Bool

@@ -9,32 +9,33 @@ use Rattle.es_model.specs.Tree as t
 use Rattle.es_model.specs.Tree.{Tree}
 use Rattle.es_model.specs.Readings.{Tokens, First, the, name, maybe_name, same_line, any_of, word, ◌▸◌}
 use Rattle.es_model.specs.Spelling.{Spells, braces, names, arrow_names, maybe_comma, AsStatement, AsDefault}
-use Rattle.parser_forms.specs.declared.words.Word.{Word}
-use Rattle.parser_forms.specs.declared.words.Word.TheVariants as w
+use Rattle.js_parser.specs.declared.words.Word.{Word}
+use Rattle.js_parser.specs.declared.words.Word.TheVariants as w
 use Rattle.parser_forms.specs.declared.parts.Part.{Part}
 use Rattle.parser_forms.specs.declared.parts.Heading.{Heading}
 use Rattle.parser_forms.specs.declared.parts.Heading.TheVariants as h
-use Rattle.parser_forms.specs.declared.frame.Frame.{Frame}
-use Rattle.parser_forms.specs.declared.frame.Frame.TheVariants as f
-use Rattle.parser_forms.specs.declared.frame.Infix.TheVariants as i
-use Rattle.parser_forms.specs.declared.frame.ExpressionFrame.TheVariants as x
-use Rattle.parser_forms.specs.declared.frame.ExpressionDue.TheVariants as xd
-use Rattle.parser_forms.specs.declared.frame.ListRole.TheVariants as l
-use Rattle.parser_forms.specs.declared.frame.MemberDue.TheVariants as md
-use Rattle.parser_forms.specs.declared.frame.Signature.{Signature}
-use Rattle.parser_forms.specs.declared.frame.Signature.TheVariants as g
-use Rattle.parser_forms.specs.declared.frame.Role.{Role}
-use Rattle.parser_forms.specs.declared.frame.Role.TheVariants as role
-use Rattle.parser_forms.specs.Cut.{cut}
-use Rattle.parser_forms.specs.Tables.{slot, gives, list_of, head_of}
-use Rattle.parser_forms.specs.State.{Frames, operand_due, read, expression_part, member_part, the_word}
-use Rattle.parser_forms.specs.Begins.{operand, head_where}
-use Rattle.parser_forms.specs.Settle.{arrow_where}
-use Rattle.parser_forms.specs.Ends.{function_end, put, put_item}
-use Rattle.parser_forms.specs.MemberSteps.{is_setter_of, is_getter_of, arrow_body}
+use Rattle.js_parser.specs.Frame.{Frame}
+use Rattle.js_parser.specs.Frame as f
+use Rattle.parser_forms.specs.declared.kinds.Infix.TheVariants as i
+use Rattle.js_parser.specs.ExpressionFrame as x
+use Rattle.js_parser.specs.ExpressionDue as xd
+use Rattle.js_parser.specs.ListRole as l
+use Rattle.js_parser.specs.MemberDue as md
+use Rattle.js_parser.specs.Signature.{Signature}
+use Rattle.js_parser.specs.Signature as g
+use Rattle.js_parser.specs.declared.frame.Role.{Role}
+use Rattle.js_parser.specs.declared.frame.Role.TheVariants as role
+use Rattle.js_parser.specs.Cut.{cut}
+use Rattle.js_parser.specs.Tables.{slot, gives}
+use Rattle.parser_forms.specs.Asks.{list_of, head_of}
+use Rattle.js_parser.specs.State.{Frames, operand_due, read, expression_part, member_part, the_word}
+use Rattle.js_parser.specs.Begins.{operand, head_where}
+use Rattle.js_parser.specs.Settle.{arrow_where}
+use Rattle.js_parser.specs.Ends.{function_end, put, put_item}
+use Rattle.js_parser.specs.MemberSteps.{is_setter_of, is_getter_of, arrow_body}
 use Rattle.parser_forms.specs.Parts as p
 use Rattle.parser_forms.specs.Parts.{listed_names, enclosed}
-use Rattle.parser_forms.specs.Machine.{run, step}
+use Rattle.js_parser.specs.Machine.{run, step}
 use Rattle.js_parser.proofs.CompleteBase.{takes, takes_name, name_at, here_at, on_line, follows, place, Follow, Reads, reach, grips, reaches, follow_least, if_true, if_false, goes_on_at, closes}
 use Rattle.js_parser.proofs.CompleteOperators.{assign_ends}
 use Rattle.js_parser.proofs.CompleteClaims.{ReadsStatement, ReadsBody, ReadsFunction, reads_braces}

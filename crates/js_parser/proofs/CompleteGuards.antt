@@ -7,22 +7,22 @@ use Rattle.es_model.specs.Tree.{Tree}
 use Rattle.es_model.specs.Levels.{defaults}
 use Rattle.es_model.specs.Readings.{Tokens, the, word, ◌▸◌}
 use Rattle.es_model.specs.Spelling.{Spells, sequence, braces, catch_name, guard, GuardsAre}
-use Rattle.parser_forms.specs.declared.words.Word.{Word}
-use Rattle.parser_forms.specs.declared.words.Word.TheVariants as w
-use Rattle.parser_forms.specs.declared.frame.Frame.TheVariants as f
-use Rattle.parser_forms.specs.declared.frame.StatementFrame.TheVariants as s
-use Rattle.parser_forms.specs.declared.frame.ListRole.TheVariants as l
-use Rattle.parser_forms.specs.declared.frame.Opening.TheVariants as o
-use Rattle.parser_forms.specs.declared.frame.StatementDue.TheVariants as sd
+use Rattle.js_parser.specs.declared.words.Word.{Word}
+use Rattle.js_parser.specs.declared.words.Word.TheVariants as w
+use Rattle.js_parser.specs.Frame as f
+use Rattle.js_parser.specs.StatementFrame as s
+use Rattle.js_parser.specs.ListRole as l
+use Rattle.js_parser.specs.declared.frame.Opening.TheVariants as o
+use Rattle.js_parser.specs.StatementDue as sd
 use Rattle.parser_forms.specs.Kept.{Sorted, and_then, followed}
-use Rattle.parser_forms.specs.Cut.{cut}
-use Rattle.parser_forms.specs.State.{Frames, State, operand_due, read, statement_due, statement_part, the_word}
-use Rattle.parser_forms.specs.Ends.{put}
-use Rattle.parser_forms.specs.Begins.{close}
-use Rattle.parser_forms.specs.StatementSteps.{finally_due}
+use Rattle.js_parser.specs.Cut.{cut}
+use Rattle.js_parser.specs.State.{Frames, State, operand_due, read, statement_due, statement_part, the_word}
+use Rattle.js_parser.specs.Ends.{put}
+use Rattle.js_parser.specs.Begins.{close}
+use Rattle.js_parser.specs.StatementSteps.{finally_due}
 use Rattle.parser_forms.specs.Parts as p
-use Rattle.parser_forms.specs.Machine.{run, step}
-use Rattle.parser_forms.proofs.Laws.{cut_none, cut_and_then}
+use Rattle.js_parser.specs.Machine.{run, step}
+use Rattle.js_parser.proofs.Laws.{cut_none, cut_and_then}
 use Rattle.js_parser.proofs.CompleteBase.{takes, takes_name, follows, place, line, Reads, Each, Maybe, appended, appended_none, reach, grips_one}
 use Rattle.js_parser.proofs.CompleteClaims.{Behind, is_guard, behind_at, ReadsStatement, ReadsCase, reads_braces, reads_sequence}
 use Rattle.js_parser.proofs.CompleteEnds.{put_closed}

@@ -13,27 +13,27 @@ use Rattle.es_model.specs.Levels.{is_declaration, ends_in_short_if}
 use Rattle.es_model.specs.Readings as readings
 use Rattle.es_model.specs.Readings.{Tokens, First, the, the_name, any_of, is_from, word, semicolon, ◌▸◌}
 use Rattle.es_model.specs.Spelling.{Spells, braced, imported, default_name, default_list, import_list, module_name, declaring_word}
-use Rattle.parser_forms.specs.declared.words.Word.{Word}
-use Rattle.parser_forms.specs.declared.words.Word.TheVariants as w
+use Rattle.js_parser.specs.declared.words.Word.{Word}
+use Rattle.js_parser.specs.declared.words.Word.TheVariants as w
 use Rattle.parser_forms.specs.declared.parts.Part.{Part}
-use Rattle.parser_forms.specs.declared.frame.Frame.{Frame}
-use Rattle.parser_forms.specs.declared.frame.Frame.TheVariants as f
-use Rattle.parser_forms.specs.declared.frame.ItemFrame.TheVariants as n
-use Rattle.parser_forms.specs.declared.frame.DeclareRole.TheVariants as declaring
-use Rattle.parser_forms.specs.declared.frame.PairRole.{PairRole}
-use Rattle.parser_forms.specs.declared.frame.PairRole.TheVariants as pr
-use Rattle.parser_forms.specs.declared.frame.ItemDue.TheVariants as nd
-use Rattle.parser_forms.specs.declared.frame.StatementDue.TheVariants as sd
+use Rattle.js_parser.specs.Frame.{Frame}
+use Rattle.js_parser.specs.Frame as f
+use Rattle.js_parser.specs.ItemFrame as n
+use Rattle.js_parser.specs.declared.frame.DeclareRole.TheVariants as declaring
+use Rattle.js_parser.specs.declared.frame.PairRole.{PairRole}
+use Rattle.js_parser.specs.declared.frame.PairRole.TheVariants as pr
+use Rattle.js_parser.specs.ItemDue as nd
+use Rattle.js_parser.specs.StatementDue as sd
 use Rattle.parser_forms.specs.Kept.{Sorted, none, and_then, followed}
-use Rattle.parser_forms.specs.Cut.{cut}
-use Rattle.parser_forms.specs.State.{Frames, State, operand_due, read, statement_due, statement_part, item_part, the_word}
-use Rattle.parser_forms.specs.Ends.{put_item}
-use Rattle.parser_forms.specs.Begins.{operand}
-use Rattle.parser_forms.specs.Settle.{may}
-use Rattle.parser_forms.specs.ItemSteps.{is_name, pairs_end, from_other, default_due}
+use Rattle.js_parser.specs.Cut.{cut}
+use Rattle.js_parser.specs.State.{Frames, State, operand_due, read, statement_due, statement_part, item_part, the_word}
+use Rattle.js_parser.specs.Ends.{put_item}
+use Rattle.js_parser.specs.Begins.{operand}
+use Rattle.js_parser.specs.Settle.{may}
+use Rattle.js_parser.specs.ItemSteps.{is_name, pairs_end, from_other, default_due}
 use Rattle.parser_forms.specs.Parts as p
-use Rattle.parser_forms.specs.Machine.{run, step}
-use Rattle.parser_forms.proofs.Laws.{cut_and_then}
+use Rattle.js_parser.specs.Machine.{run, step}
+use Rattle.js_parser.proofs.Laws.{cut_and_then}
 use Rattle.js_parser.proofs.CompleteBase.{takes, takes_name, here_at, follow_least, place, line, Each, reach, grips, if_false}
 use Rattle.js_parser.proofs.CompleteClaims.{Behind, behind_any, ReadsStatement, ReadsFunction, ReadsClass, ReadsDeclarator, ReadsDefault}
 use Rattle.js_parser.proofs.CompleteEnds.{ItemEnding, item_ends_with, missing_item_end, miss_is_none, miss_needs, semicolon_follows, ended_by}

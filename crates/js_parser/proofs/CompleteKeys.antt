@@ -13,16 +13,16 @@ use Rattle.es_model.specs.Tree as t
 use Rattle.es_model.specs.Tree.{Tree, Text}
 use Rattle.es_model.specs.Readings.{Tokens, word, plain_name, ◌▸◌}
 use Rattle.es_model.specs.Spelling.{Spells, accessor_word}
-use Rattle.parser_forms.specs.declared.words.Word.{Word}
-use Rattle.parser_forms.specs.declared.words.Word.TheVariants as w
-use Rattle.parser_forms.specs.declared.frame.Frame.TheVariants as f
-use Rattle.parser_forms.specs.declared.frame.MemberFrame.TheVariants as mf
-use Rattle.parser_forms.specs.declared.frame.MemberDue.TheVariants as md
-use Rattle.parser_forms.specs.Words.{keyword_word, word_of}
-use Rattle.parser_forms.specs.State.{Frames, State, read, member_part, the_word}
-use Rattle.parser_forms.specs.MemberSteps.{ident, start_of, keyed, keyword_key, key_kind, name_start, member_kind, member_start, key_next, accessor}
+use Rattle.js_parser.specs.declared.words.Word.{Word}
+use Rattle.js_parser.specs.declared.words.Word.TheVariants as w
+use Rattle.js_parser.specs.Frame as f
+use Rattle.js_parser.specs.MemberFrame as mf
+use Rattle.js_parser.specs.MemberDue as md
+use Rattle.js_parser.specs.Words.{keyword_word, word_of}
+use Rattle.js_parser.specs.State.{Frames, State, read, member_part, the_word}
+use Rattle.js_parser.specs.MemberSteps.{ident, start_of, keyed, keyword_key, key_kind, name_start, member_kind, member_start, key_next, accessor}
 use Rattle.parser_forms.specs.Parts as p
-use Rattle.parser_forms.specs.Machine.{run}
+use Rattle.js_parser.specs.Machine.{run}
 use Rattle.js_parser.proofs.CompleteBase.{takes, follows, place, reach, grips}
 use Rattle.js_parser.proofs.CompleteFirst.{Starts}
 use Rattle.js_parser.proofs.CompleteClaims.{ReadsKey}

@@ -10,22 +10,22 @@ use Rattle.es_model.specs.Readings.{Tokens, One, the, word}
 use Rattle.es_model.specs.Levels.{level}
 use Rattle.es_model.specs.Spelling.{Spells, separated, pieces, are_elements}
 use Rattle.parser_forms.specs.declared.parts.Part.{Part}
-use Rattle.parser_forms.specs.declared.frame.Frame.{Frame}
-use Rattle.parser_forms.specs.declared.frame.Frame.TheVariants as f
-use Rattle.parser_forms.specs.declared.frame.Callee.{Callee}
-use Rattle.parser_forms.specs.declared.frame.Callee.TheVariants as callee
-use Rattle.parser_forms.specs.declared.frame.ExpressionFrame.TheVariants as x
-use Rattle.parser_forms.specs.declared.frame.ExpressionDue.TheVariants as xd
-use Rattle.parser_forms.specs.Words.{word_of}
+use Rattle.js_parser.specs.Frame.{Frame}
+use Rattle.js_parser.specs.Frame as f
+use Rattle.js_parser.specs.Callee.{Callee}
+use Rattle.js_parser.specs.Callee as callee
+use Rattle.js_parser.specs.ExpressionFrame as x
+use Rattle.js_parser.specs.ExpressionDue as xd
+use Rattle.js_parser.specs.Words.{word_of}
 use Rattle.parser_forms.specs.Kept.{Sorted, and_then, none, followed}
-use Rattle.parser_forms.specs.Cut.{cut}
-use Rattle.parser_forms.specs.Tables.{slot, slot_of}
-use Rattle.parser_forms.specs.State.{Frames, State, operand_due, read, expression_part}
-use Rattle.parser_forms.specs.Ends.{called}
-use Rattle.parser_forms.specs.MemberSteps.{super_arguments}
+use Rattle.js_parser.specs.Cut.{cut}
+use Rattle.js_parser.specs.Tables.{slot, slot_of}
+use Rattle.js_parser.specs.State.{Frames, State, operand_due, read, expression_part}
+use Rattle.js_parser.specs.Ends.{called}
+use Rattle.js_parser.specs.MemberSteps.{super_arguments}
 use Rattle.parser_forms.specs.Parts as p
-use Rattle.parser_forms.specs.Machine.{run, step}
-use Rattle.parser_forms.proofs.Laws.{cut_none, cut_and_then}
+use Rattle.js_parser.specs.Machine.{run, step}
+use Rattle.js_parser.proofs.Laws.{cut_none, cut_and_then}
 use Rattle.js_parser.proofs.CompleteBase.{takes, here_at, follows, place, line, needs, Follow, Reads, Each, appended, appended_none, grip, reach, grips, grips_one, grips_callee, reaches, reaches_base, follow_least, if_true, goes_on_at}
 use Rattle.js_parser.proofs.CompleteOperands.{is_base_of, is_callee_of}
 use Rattle.js_parser.proofs.FormLaws.{array_is, call_is, super_call_is, new_call_is, template_is}

@@ -9,24 +9,24 @@ use Rattle.es_model.specs.Levels.{level, all_initialised}
 use Rattle.es_model.specs.Readings as readings
 use Rattle.es_model.specs.Readings.{Tokens, the, name, word, semicolon, nothing, ◌▸◌}
 use Rattle.es_model.specs.Spelling.{Spells, joined, declaring_word, Initialised, maybe}
-use Rattle.parser_forms.specs.declared.words.Word.{Word}
-use Rattle.parser_forms.specs.declared.words.Word.TheVariants as w
-use Rattle.parser_forms.specs.declared.frame.Frame.{Frame}
-use Rattle.parser_forms.specs.declared.frame.Frame.TheVariants as f
-use Rattle.parser_forms.specs.declared.frame.StatementFrame.TheVariants as s
-use Rattle.parser_forms.specs.declared.frame.DeclareRole.{DeclareRole}
-use Rattle.parser_forms.specs.declared.frame.DeclareRole.TheVariants as declaring
-use Rattle.parser_forms.specs.declared.frame.StatementDue.TheVariants as sd
+use Rattle.js_parser.specs.declared.words.Word.{Word}
+use Rattle.js_parser.specs.declared.words.Word.TheVariants as w
+use Rattle.js_parser.specs.Frame.{Frame}
+use Rattle.js_parser.specs.Frame as f
+use Rattle.js_parser.specs.StatementFrame as s
+use Rattle.js_parser.specs.declared.frame.DeclareRole.{DeclareRole}
+use Rattle.js_parser.specs.declared.frame.DeclareRole.TheVariants as declaring
+use Rattle.js_parser.specs.StatementDue as sd
 use Rattle.parser_forms.specs.Kept.{Sorted, none, and_then, followed}
-use Rattle.parser_forms.specs.Cut.{cut}
-use Rattle.parser_forms.specs.State.{Frames, State, operand_due, read, statement_due, statement_part, the_word}
-use Rattle.parser_forms.specs.Ends.{put}
-use Rattle.parser_forms.specs.Begins.{operand, in_list}
-use Rattle.parser_forms.specs.Settle.{names_end, initialiser_end, may}
-use Rattle.parser_forms.specs.StatementSteps.{for_head, for_test, for_step, name_next}
+use Rattle.js_parser.specs.Cut.{cut}
+use Rattle.js_parser.specs.State.{Frames, State, operand_due, read, statement_due, statement_part, the_word}
+use Rattle.js_parser.specs.Ends.{put}
+use Rattle.js_parser.specs.Begins.{operand, in_list}
+use Rattle.js_parser.specs.Settle.{names_end, initialiser_end, may}
+use Rattle.js_parser.specs.StatementSteps.{for_head, for_test, for_step, name_next}
 use Rattle.parser_forms.specs.Parts as p
-use Rattle.parser_forms.specs.Machine.{run, step}
-use Rattle.parser_forms.proofs.Laws.{cut_none, cut_and_then}
+use Rattle.js_parser.specs.Machine.{run, step}
+use Rattle.js_parser.proofs.Laws.{cut_none, cut_and_then}
 use Rattle.js_parser.proofs.CompleteBase.{takes, takes_name, follows, follow_least, place, line, needs, Follow, Reads, Each, Maybe, appended, appended_none, reach, grips, grips_one, reaches, if_true}
 use Rattle.js_parser.proofs.CompleteFirst.{Starts, begins, first_expression}
 use Rattle.js_parser.proofs.CompleteClaims.{ReadsStatement, ReadsDeclarator, ReadsHead}

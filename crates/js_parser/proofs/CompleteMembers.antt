@@ -11,24 +11,25 @@ use Rattle.es_model.specs.Tree.{Tree}
 use Rattle.es_model.specs.Levels.{level, InObject}
 use Rattle.es_model.specs.Readings.{Tokens, Reading, the, name, nothing, word, ◌▸◌}
 use Rattle.es_model.specs.Spelling.{Spells, braces, member_parameters, member_function_kind, accessor_word, AsMember, object_members}
-use Rattle.parser_forms.specs.declared.words.Word.{Word}
-use Rattle.parser_forms.specs.declared.words.Word.TheVariants as w
-use Rattle.parser_forms.specs.declared.frame.Frame.TheVariants as f
-use Rattle.parser_forms.specs.declared.frame.MemberFrame.TheVariants as mf
-use Rattle.parser_forms.specs.declared.frame.MemberDue.TheVariants as md
-use Rattle.parser_forms.specs.declared.frame.MemberStart.{MemberStart}
-use Rattle.parser_forms.specs.declared.frame.KeyPart.{KeyPart}
-use Rattle.parser_forms.specs.declared.frame.Signature.TheVariants as g
+use Rattle.js_parser.specs.declared.words.Word.{Word}
+use Rattle.js_parser.specs.declared.words.Word.TheVariants as w
+use Rattle.js_parser.specs.Frame as f
+use Rattle.js_parser.specs.MemberFrame as mf
+use Rattle.js_parser.specs.MemberDue as md
+use Rattle.js_parser.specs.MemberStart.{MemberStart}
+use Rattle.parser_forms.specs.declared.parts.KeyPart.{KeyPart}
+use Rattle.js_parser.specs.Signature as g
 use Rattle.parser_forms.specs.Kept.{Sorted, and_then, followed}
-use Rattle.parser_forms.specs.Cut.{cut}
-use Rattle.parser_forms.specs.Tables.{gives}
-use Rattle.parser_forms.specs.State.{Frames, State, operand_due, read, member_part, the_word}
-use Rattle.parser_forms.specs.Settle.{object_next}
-use Rattle.parser_forms.specs.Ends.{method_end, method_kind}
-use Rattle.parser_forms.specs.MemberSteps.{start_of, member_start, key_next, parameters_of, object_member, member_next}
+use Rattle.js_parser.specs.Cut.{cut}
+use Rattle.js_parser.specs.Tables.{gives}
+use Rattle.js_parser.specs.State.{Frames, State, operand_due, read, member_part, the_word}
+use Rattle.js_parser.specs.Settle.{object_next}
+use Rattle.js_parser.specs.Ends.{method_end}
+use Rattle.parser_forms.specs.Parts.{method_kind}
+use Rattle.js_parser.specs.MemberSteps.{start_of, member_start, key_next, parameters_of, object_member, member_next}
 use Rattle.parser_forms.specs.Parts as p
-use Rattle.parser_forms.specs.Machine.{run}
-use Rattle.parser_forms.proofs.Laws.{cut_none, cut_and_then}
+use Rattle.js_parser.specs.Machine.{run}
+use Rattle.js_parser.proofs.Laws.{cut_none, cut_and_then}
 use Rattle.js_parser.proofs.CompleteBase.{takes, takes_name, here_at, place, line, needs, Follow, Reads, Each, appended, appended_none, reach, grips, reaches, follow_least, if_false, gives_comma}
 use Rattle.js_parser.proofs.CompleteFirst.{Starts, starts_at, starts_more}
 use Rattle.js_parser.proofs.CompleteClaims.{ReadsStatement, ReadsFunction, ReadsKey, ReadsMember}

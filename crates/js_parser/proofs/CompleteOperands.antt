@@ -9,20 +9,21 @@ use Rattle.es_model.specs.Tree.{Tree, Text}
 use Rattle.es_model.specs.Readings.{Tokens, the, word}
 use Rattle.es_model.specs.Levels.{level, unary_sign, has_call, is_bare_new, is_target}
 use Rattle.es_model.specs.Spelling.{Spells, step as step_sign}
-use Rattle.parser_forms.specs.declared.words.Word.{Word}
-use Rattle.parser_forms.specs.declared.words.Word.TheVariants as w
+use Rattle.js_parser.specs.declared.words.Word.{Word}
+use Rattle.js_parser.specs.declared.words.Word.TheVariants as w
 use Rattle.parser_forms.specs.declared.parts.Part.{Part}
-use Rattle.parser_forms.specs.declared.frame.Frame.{Frame}
-use Rattle.parser_forms.specs.declared.frame.Frame.TheVariants as f
-use Rattle.parser_forms.specs.declared.frame.Prefix.{Prefix}
-use Rattle.parser_forms.specs.declared.frame.Prefix.TheVariants as prefix
-use Rattle.parser_forms.specs.declared.frame.ExpressionFrame.TheVariants as x
-use Rattle.parser_forms.specs.declared.frame.ExpressionDue.TheVariants as xd
-use Rattle.parser_forms.specs.Tables.{slot, is_base, is_new_callee, gives}
-use Rattle.parser_forms.specs.State.{Frames, State, operand_due, read, expression_part, the_word}
-use Rattle.parser_forms.specs.Settle.{new_end}
+use Rattle.js_parser.specs.Frame.{Frame}
+use Rattle.js_parser.specs.Frame as f
+use Rattle.parser_forms.specs.declared.kinds.Prefix.{Prefix}
+use Rattle.parser_forms.specs.declared.kinds.Prefix.TheVariants as prefix
+use Rattle.js_parser.specs.ExpressionFrame as x
+use Rattle.js_parser.specs.ExpressionDue as xd
+use Rattle.js_parser.specs.Tables.{slot, gives}
+use Rattle.parser_forms.specs.Asks.{is_base, is_new_callee}
+use Rattle.js_parser.specs.State.{Frames, State, operand_due, read, expression_part, the_word}
+use Rattle.js_parser.specs.Settle.{new_end}
 use Rattle.parser_forms.specs.Parts as p
-use Rattle.parser_forms.specs.Machine.{run}
+use Rattle.js_parser.specs.Machine.{run}
 use Rattle.js_parser.proofs.CompleteBase.{takes, takes_name, takes_property, name_at, here_at, on_line, follows, place, line, needs, Follow, Reads, grip, reach, grips, grips_one, grips_callee, grip_by, grip_most, reaches, reaches_base, follow_least, if_true, goes_on_at, closes, gives_needs, gives_product}
 use Rattle.js_parser.proofs.FormLaws.{this_is, null_is, true_is, false_is, number_is, string_is, name_is, paren_is, dot_is, index_is, super_dot_is, super_index_is, bare_new_is, update_before_is, update_behind_is, unary_is, typeof_is, void_is, delete_is}
 use Rattle.js_parser.specs.Summary.{part_of}

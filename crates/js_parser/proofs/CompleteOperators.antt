@@ -10,19 +10,20 @@ use Rattle.es_model.specs.Tree.{Tree}
 use Rattle.es_model.specs.Readings.{Tokens, One, word}
 use Rattle.es_model.specs.Levels.{level, operator_sign, operator_level, left_level, right_level, assignment_sign, is_nullish, is_bare_new}
 use Rattle.es_model.specs.Spelling.{Spells, assigning}
-use Rattle.parser_forms.specs.declared.words.Word.{Word}
+use Rattle.js_parser.specs.declared.words.Word.{Word}
 use Rattle.parser_forms.specs.declared.parts.Part.{Part}
-use Rattle.parser_forms.specs.declared.frame.Frame.{Frame}
-use Rattle.parser_forms.specs.declared.frame.Frame.TheVariants as f
-use Rattle.parser_forms.specs.declared.frame.Infix.{Infix}
-use Rattle.parser_forms.specs.declared.frame.Infix.TheVariants as i
-use Rattle.parser_forms.specs.declared.frame.ExpressionFrame.TheVariants as x
-use Rattle.parser_forms.specs.Words.{word_of}
-use Rattle.parser_forms.specs.Tables.{slot, gives, gives_by, infix_of, assignment_of, is_left_of, right_of}
-use Rattle.parser_forms.specs.State.{Frames, operand_due, read}
-use Rattle.parser_forms.specs.Settle.{taken_by}
+use Rattle.js_parser.specs.Frame.{Frame}
+use Rattle.js_parser.specs.Frame as f
+use Rattle.parser_forms.specs.declared.kinds.Infix.{Infix}
+use Rattle.parser_forms.specs.declared.kinds.Infix.TheVariants as i
+use Rattle.js_parser.specs.ExpressionFrame as x
+use Rattle.js_parser.specs.Words.{word_of}
+use Rattle.js_parser.specs.Tables.{slot, gives, gives_by, infix_of, assignment_of, right_of}
+use Rattle.parser_forms.specs.Asks.{is_left_of}
+use Rattle.js_parser.specs.State.{Frames, operand_due, read}
+use Rattle.js_parser.specs.Settle.{taken_by}
 use Rattle.parser_forms.specs.Parts as p
-use Rattle.parser_forms.specs.Machine.{run}
+use Rattle.js_parser.specs.Machine.{run}
 use Rattle.js_parser.proofs.CompleteBase.{takes, here_at, follows, place, line, needs, needs_by, left_needs, Follow, Reads, grip, grip_by, reach, positive, grips, reaches, reaches_base, follow_least, follow_comma, if_true, goes_on_at, closes, gives_needs, gives_comma, gives_product}
 use Rattle.js_parser.proofs.CompleteOperands.{target_level}
 use Rattle.js_parser.proofs.FormLaws.{binary_is, in_is, instance_of_is, and_is, or_is, nullish_is, comma_is, conditional_is, assign_is}

@@ -6,12 +6,12 @@ use Rattle.es_model.specs.declared.names.Identifier.{Identifier}
 use Rattle.es_model.specs.declared.names.Pair.{Pair}
 use Rattle.es_model.specs.Readings.{Tokens, Reading, the, name, the_name, word}
 use Rattle.es_model.specs.Spelling.{outer_name, imported, exported_from, exported, pairs, maybe_comma}
-use Rattle.parser_forms.specs.declared.frame.PairRole.{PairRole}
-use Rattle.parser_forms.specs.declared.frame.PairRole.TheVariants as pr
-use Rattle.parser_forms.specs.declared.frame.ItemDue.TheVariants as nd
-use Rattle.parser_forms.specs.State.{Frames, item_part}
-use Rattle.parser_forms.specs.ItemSteps.{and_outer, pairs_end, default_at}
-use Rattle.parser_forms.specs.Machine.{run}
+use Rattle.js_parser.specs.declared.frame.PairRole.{PairRole}
+use Rattle.js_parser.specs.declared.frame.PairRole.TheVariants as pr
+use Rattle.js_parser.specs.ItemDue as nd
+use Rattle.js_parser.specs.State.{Frames, item_part}
+use Rattle.js_parser.specs.ItemSteps.{and_outer, pairs_end, default_at}
+use Rattle.js_parser.specs.Machine.{run}
 use Rattle.js_parser.proofs.CompleteBase.{takes, takes_name, here_at, place}
 
 -- the end of a pair: a comma or a brace

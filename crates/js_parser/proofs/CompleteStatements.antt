@@ -8,29 +8,29 @@ use Rattle.es_model.specs.Levels.{ends_in_short_if}
 use Rattle.es_model.specs.Readings as readings
 use Rattle.es_model.specs.Readings.{Tokens, First, the, word}
 use Rattle.es_model.specs.Spelling.{Spells}
-use Rattle.parser_forms.specs.declared.words.Word.{Word}
-use Rattle.parser_forms.specs.declared.words.Word.TheVariants as w
+use Rattle.js_parser.specs.declared.words.Word.{Word}
+use Rattle.js_parser.specs.declared.words.Word.TheVariants as w
 use Rattle.parser_forms.specs.declared.parts.Part.{Part}
-use Rattle.parser_forms.specs.declared.frame.Frame.{Frame}
-use Rattle.parser_forms.specs.declared.frame.Frame.TheVariants as f
-use Rattle.parser_forms.specs.declared.frame.StatementFrame.TheVariants as s
-use Rattle.parser_forms.specs.declared.frame.ListRole.TheVariants as l
-use Rattle.parser_forms.specs.declared.frame.Opening.{Opening}
-use Rattle.parser_forms.specs.declared.frame.Opening.TheVariants as o
-use Rattle.parser_forms.specs.declared.frame.Jump.{Jump}
-use Rattle.parser_forms.specs.declared.frame.Jump.TheVariants as j
-use Rattle.parser_forms.specs.declared.frame.StatementDue.TheVariants as sd
-use Rattle.parser_forms.specs.Words.{word_of}
+use Rattle.js_parser.specs.Frame.{Frame}
+use Rattle.js_parser.specs.Frame as f
+use Rattle.js_parser.specs.StatementFrame as s
+use Rattle.js_parser.specs.ListRole as l
+use Rattle.js_parser.specs.declared.frame.Opening.{Opening}
+use Rattle.js_parser.specs.declared.frame.Opening.TheVariants as o
+use Rattle.js_parser.specs.declared.frame.Jump.{Jump}
+use Rattle.js_parser.specs.declared.frame.Jump.TheVariants as j
+use Rattle.js_parser.specs.StatementDue as sd
+use Rattle.js_parser.specs.Words.{word_of}
 use Rattle.parser_forms.specs.Kept.{Sorted}
-use Rattle.parser_forms.specs.Cut.{cut}
-use Rattle.parser_forms.specs.Tables.{is_semicolon, may_miss_bare}
-use Rattle.parser_forms.specs.State.{Frames, operand_due, read, statement_due, statement_part, the_word}
-use Rattle.parser_forms.specs.Ends.{put}
-use Rattle.parser_forms.specs.Begins.{close, else_or}
-use Rattle.parser_forms.specs.Settle.{test_end}
-use Rattle.parser_forms.specs.StatementSteps.{jump, bare_may}
+use Rattle.js_parser.specs.Cut.{cut}
+use Rattle.js_parser.specs.Tables.{is_semicolon, may_miss_bare}
+use Rattle.js_parser.specs.State.{Frames, operand_due, read, statement_due, statement_part, the_word}
+use Rattle.js_parser.specs.Ends.{put}
+use Rattle.js_parser.specs.Begins.{close, else_or}
+use Rattle.js_parser.specs.Settle.{test_end}
+use Rattle.js_parser.specs.StatementSteps.{jump, bare_may}
 use Rattle.parser_forms.specs.Parts as p
-use Rattle.parser_forms.specs.Machine.{run}
+use Rattle.js_parser.specs.Machine.{run}
 use Rattle.js_parser.proofs.CompleteBase.{takes, here_at, follows, follow_least, place, Reads, Each, reach, grips_one, if_true, if_false}
 use Rattle.js_parser.proofs.CompleteFirst.{Starts, begins, first_expression}
 use Rattle.js_parser.proofs.CompleteClaims.{Behind, is_else, is_guard, behind_any, behind_at, ReadsStatement, ReadsFunction, ReadsClass, reads_braces}

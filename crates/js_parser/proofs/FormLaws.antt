@@ -14,12 +14,12 @@ use Rattle.es_model.specs.Tree as t
 use Rattle.es_model.specs.Tree.{Tree, Text}
 use Rattle.es_model.specs.Nesting.{nesting}
 use Rattle.parser_forms.specs.declared.parts.Part.{Part}
-use Rattle.parser_forms.specs.declared.frame.Infix.TheVariants as i
-use Rattle.parser_forms.specs.declared.frame.Prefix.TheVariants as prefix
+use Rattle.parser_forms.specs.declared.kinds.Infix.TheVariants as i
+use Rattle.parser_forms.specs.declared.kinds.Prefix.TheVariants as prefix
 use Rattle.parser_forms.specs.Kept.{Sorted, around, both, counted, optional}
-use Rattle.parser_forms.specs.Cut.{kept_at, cut}
+use Rattle.js_parser.specs.Cut.{kept_at, cut}
 use Rattle.parser_forms.specs.Parts as p
-use Rattle.parser_forms.proofs.Laws.{around_law, both_law, counted_law, one_law, two_law, cut_absent, cut_present}
+use Rattle.js_parser.proofs.Laws.{around_law, both_law, counted_law, one_law, two_law, cut_absent, cut_present}
 use Rattle.js_parser.specs.Summary.{part_of, key_of, option_of}
 
 -- a part with another tree

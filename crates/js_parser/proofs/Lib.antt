@@ -1,3 +1,17 @@
+pub mod Rows
+pub mod FormRows
+pub mod LevelRows
+pub mod OperandRows
+pub mod MemberRows
+pub mod StatementRows
+pub mod ItemRows
+pub mod ExpressionMisses
+pub mod MemberMisses
+pub mod StatementMisses
+pub mod ItemMisses
+pub mod DepthRows
+pub mod WordRows
+pub mod Laws
 pub mod Moved
 pub mod MovedWords
 pub mod MovedTrees
@@ -37,3 +51,4 @@ pub mod CompletePairs
 pub mod CompleteItems
 pub mod Complete
 pub mod Promised
+pub mod HeldLaws

@@ -9,42 +9,43 @@ use Rattle.es_model.specs.declared.names.Pair.{Pair}
 use Rattle.es_model.specs.declared.token.Token.{Token}
 use Rattle.es_model.specs.declared.token.TokenKind.TheVariants as k
 use Rattle.es_model.specs.Tree as t
-use Rattle.parser_forms.specs.declared.words.Word.TheVariants as w
+use Rattle.js_parser.specs.declared.words.Word.TheVariants as w
 use Rattle.parser_forms.specs.declared.parts.Part.{Part}
-use Rattle.parser_forms.specs.declared.frame.Frame.{Frame}
-use Rattle.parser_forms.specs.declared.frame.Frame.TheVariants as f
-use Rattle.parser_forms.specs.declared.frame.ExpressionFrame.TheVariants as x
-use Rattle.parser_forms.specs.declared.frame.MemberFrame.TheVariants as m
-use Rattle.parser_forms.specs.declared.frame.StatementFrame.TheVariants as s
-use Rattle.parser_forms.specs.declared.frame.ItemFrame.TheVariants as n
-use Rattle.parser_forms.specs.declared.frame.Role.{Role}
-use Rattle.parser_forms.specs.declared.frame.Role.TheVariants as role
-use Rattle.parser_forms.specs.declared.frame.MemberStart.{MemberStart}
-use Rattle.parser_forms.specs.declared.frame.DeclareRole.{DeclareRole}
-use Rattle.parser_forms.specs.declared.frame.DeclareRole.TheVariants as d
-use Rattle.parser_forms.specs.declared.frame.PairRole.{PairRole}
-use Rattle.parser_forms.specs.declared.frame.PairRole.TheVariants as pr
-use Rattle.parser_forms.specs.declared.frame.ExpressionDue.{ExpressionDue}
-use Rattle.parser_forms.specs.declared.frame.ExpressionDue.TheVariants as xd
-use Rattle.parser_forms.specs.declared.frame.MemberDue.{MemberDue}
-use Rattle.parser_forms.specs.declared.frame.MemberDue.TheVariants as md
-use Rattle.parser_forms.specs.declared.frame.StatementDue.{StatementDue}
-use Rattle.parser_forms.specs.declared.frame.StatementDue.TheVariants as sd
-use Rattle.parser_forms.specs.declared.frame.ItemDue.{ItemDue}
-use Rattle.parser_forms.specs.declared.frame.ItemDue.TheVariants as nd
-use Rattle.parser_forms.specs.declared.frame.Control.{Control}
-use Rattle.parser_forms.specs.declared.frame.Control.TheVariants as c
+use Rattle.js_parser.specs.Frame.{Frame}
+use Rattle.js_parser.specs.Frame as f
+use Rattle.js_parser.specs.ExpressionFrame as x
+use Rattle.js_parser.specs.MemberFrame as m
+use Rattle.js_parser.specs.StatementFrame as s
+use Rattle.js_parser.specs.ItemFrame as n
+use Rattle.js_parser.specs.declared.frame.Role.{Role}
+use Rattle.js_parser.specs.declared.frame.Role.TheVariants as role
+use Rattle.js_parser.specs.MemberStart.{MemberStart}
+use Rattle.js_parser.specs.declared.frame.DeclareRole.{DeclareRole}
+use Rattle.js_parser.specs.declared.frame.DeclareRole.TheVariants as d
+use Rattle.js_parser.specs.declared.frame.PairRole.{PairRole}
+use Rattle.js_parser.specs.declared.frame.PairRole.TheVariants as pr
+use Rattle.js_parser.specs.ExpressionDue.{ExpressionDue}
+use Rattle.js_parser.specs.ExpressionDue as xd
+use Rattle.js_parser.specs.MemberDue.{MemberDue}
+use Rattle.js_parser.specs.MemberDue as md
+use Rattle.js_parser.specs.StatementDue.{StatementDue}
+use Rattle.js_parser.specs.StatementDue as sd
+use Rattle.js_parser.specs.ItemDue.{ItemDue}
+use Rattle.js_parser.specs.ItemDue as nd
+use Rattle.js_parser.specs.Control.{Control}
+use Rattle.js_parser.specs.Control as c
 use Rattle.parser_forms.specs.Kept.{Sorted, and_then}
 use Rattle.parser_forms.specs.Parts as p
-use Rattle.parser_forms.specs.Tables.{is_new_callee, goes_on_in, slot_of}
-use Rattle.parser_forms.specs.State.{Frames, State, state}
-use Rattle.parser_forms.specs.Ends.{case_start, module_end}
-use Rattle.parser_forms.specs.Begins.{close_item, close}
-use Rattle.parser_forms.specs.Settle.{names_end, object_next, ended, closed, settle}
-use Rattle.parser_forms.specs.MemberSteps.{object_key, key_next, member_due, member_next, function_name, class_name, expression_step, member_step}
-use Rattle.parser_forms.specs.StatementSteps.{jump, name_next, statement_step}
-use Rattle.parser_forms.specs.ItemSteps.{from_other, both_names, given_word, export_names, item_step}
-use Rattle.parser_forms.specs.Machine.{step_by, step}
+use Rattle.js_parser.specs.Tables.{goes_on_in, slot_of}
+use Rattle.parser_forms.specs.Asks.{is_new_callee}
+use Rattle.js_parser.specs.State.{Frames, State, state}
+use Rattle.js_parser.specs.Ends.{case_start, module_end}
+use Rattle.js_parser.specs.Begins.{close_item, close}
+use Rattle.js_parser.specs.Settle.{names_end, object_next, ended, closed, settle}
+use Rattle.js_parser.specs.MemberSteps.{object_key, key_next, member_due, member_next, function_name, class_name, expression_step, member_step}
+use Rattle.js_parser.specs.StatementSteps.{jump, name_next, statement_step}
+use Rattle.js_parser.specs.ItemSteps.{from_other, both_names, given_word, export_names, item_step}
+use Rattle.js_parser.specs.Machine.{step_by, step}
 use Rattle.js_parser.proofs.SoundEnds.{split}
 use Rattle.js_parser.proofs.SoundSettle.{slot_is}
 

@@ -5,12 +5,12 @@ use Rattle.es_model.specs.Tree as t
 use Rattle.es_model.specs.Tree.{Tree}
 use Rattle.es_model.specs.Readings.{Tokens}
 use Rattle.es_model.specs.Spelling.{spells}
-use Rattle.parser_forms.specs.declared.frame.Control.{Control}
-use Rattle.parser_forms.specs.declared.frame.Control.TheVariants as c
+use Rattle.js_parser.specs.Control.{Control}
+use Rattle.js_parser.specs.Control as c
 use Rattle.parser_forms.specs.Kept.{Sorted}
-use Rattle.parser_forms.specs.Cut.{cut}
-use Rattle.parser_forms.specs.State.{Frames, State, state}
-use Rattle.parser_forms.specs.Machine.{step_by, step, run, start}
+use Rattle.js_parser.specs.Cut.{cut}
+use Rattle.js_parser.specs.State.{Frames, State, state}
+use Rattle.js_parser.specs.Machine.{step_by, step, run, start}
 use Rattle.js_parser.proofs.SoundStates.{ControlHolds, Holds}
 use Rattle.js_parser.proofs.SoundStatementForms.{read_no_items}
 use Rattle.js_parser.proofs.SoundBegins.{operand_holds, begin_holds}

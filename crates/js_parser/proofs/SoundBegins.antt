@@ -9,24 +9,25 @@ use Rattle.es_model.specs.declared.token.TokenKind.TheVariants as k
 use Rattle.es_model.specs.Tree as t
 use Rattle.es_model.specs.Readings.{Tokens, word, here}
 use Rattle.es_model.specs.Spelling.{arrow_names, step}
-use Rattle.parser_forms.specs.declared.words.Word.{Word}
-use Rattle.parser_forms.specs.declared.words.Word.TheVariants as w
-use Rattle.parser_forms.specs.declared.frame.Infix.TheVariants as i
-use Rattle.parser_forms.specs.declared.frame.Prefix.{Prefix}
-use Rattle.parser_forms.specs.declared.frame.Callee.{Callee}
-use Rattle.parser_forms.specs.declared.frame.Callee.TheVariants as callee
-use Rattle.parser_forms.specs.declared.frame.Frame.{Frame}
-use Rattle.parser_forms.specs.declared.frame.Frame.TheVariants as f
-use Rattle.parser_forms.specs.declared.frame.ExpressionFrame.TheVariants as x
-use Rattle.parser_forms.specs.declared.frame.StatementFrame.TheVariants as s
-use Rattle.parser_forms.specs.declared.frame.ItemFrame.TheVariants as n
-use Rattle.parser_forms.specs.Words.{keyword_word, sign_word, word_of}
+use Rattle.js_parser.specs.declared.words.Word.{Word}
+use Rattle.js_parser.specs.declared.words.Word.TheVariants as w
+use Rattle.parser_forms.specs.declared.kinds.Infix.TheVariants as i
+use Rattle.parser_forms.specs.declared.kinds.Prefix.{Prefix}
+use Rattle.js_parser.specs.Callee.{Callee}
+use Rattle.js_parser.specs.Callee as callee
+use Rattle.js_parser.specs.Frame.{Frame}
+use Rattle.js_parser.specs.Frame as f
+use Rattle.js_parser.specs.ExpressionFrame as x
+use Rattle.js_parser.specs.StatementFrame as s
+use Rattle.js_parser.specs.ItemFrame as n
+use Rattle.js_parser.specs.Words.{keyword_word, sign_word, word_of}
 use Rattle.parser_forms.specs.Kept.{Sorted, and_then}
 use Rattle.parser_forms.specs.Parts as p
-use Rattle.parser_forms.specs.Tables.{prefix_of, slot_of, slot, list_of}
-use Rattle.parser_forms.specs.Ends.{called}
-use Rattle.parser_forms.specs.Begins.{head_where, close_paren, close_bracket, prefixed, updated, operand_word, operand_kind, operand, in_list, in_module, declaration, declared, statement_word, begin, close_item, else_or, while_or_fail, close}
-use Rattle.parser_forms.specs.State.{Frames, State, fail, statement_due, the_word}
+use Rattle.js_parser.specs.Tables.{prefix_of, slot_of, slot}
+use Rattle.parser_forms.specs.Asks.{list_of}
+use Rattle.js_parser.specs.Ends.{called}
+use Rattle.js_parser.specs.Begins.{head_where, close_paren, close_bracket, prefixed, updated, operand_word, operand_kind, operand, in_list, in_module, declaration, declared, statement_word, begin, close_item, else_or, while_or_fail, close}
+use Rattle.js_parser.specs.State.{Frames, State, fail, statement_due, the_word}
 use Rattle.js_parser.proofs.WordLaws.{Is, kind_is, word_is, IsPrefix, prefix_word, begins_no_value, no_value_is}
 use Rattle.js_parser.proofs.SoundLists.{names_comma}
 use Rattle.js_parser.proofs.SoundStates.{Opened, Holds, Takes, ReadItem, ReadLine, lowest_of, lowest}

@@ -7,24 +7,25 @@ use Rattle.es_model.specs.declared.token.TokenKind.TheVariants as k
 use Rattle.es_model.specs.Tree as t
 use Rattle.std.specs.Prelude.{if◌then◌else◌}
 use Rattle.es_model.specs.Readings.{Tokens, word, the}
-use Rattle.parser_forms.specs.declared.words.Word.{Word}
-use Rattle.parser_forms.specs.declared.words.Word.TheVariants as w
-use Rattle.parser_forms.specs.declared.frame.Role.{Role}
-use Rattle.parser_forms.specs.declared.frame.Role.TheVariants as role
-use Rattle.parser_forms.specs.declared.frame.MemberStart.{MemberStart}
-use Rattle.parser_forms.specs.declared.frame.ClassStart.{ClassStart}
-use Rattle.parser_forms.specs.declared.frame.Signature.{Signature}
-use Rattle.parser_forms.specs.declared.frame.Signature.TheVariants as g
-use Rattle.parser_forms.specs.declared.frame.Frame.TheVariants as f
-use Rattle.parser_forms.specs.declared.frame.MemberFrame.TheVariants as m
-use Rattle.parser_forms.specs.declared.frame.StatementFrame.TheVariants as s
-use Rattle.parser_forms.specs.declared.frame.ItemFrame.TheVariants as n
-use Rattle.parser_forms.specs.declared.frame.ListRole.{ListRole}
-use Rattle.parser_forms.specs.declared.frame.ListRole.TheVariants as l
+use Rattle.js_parser.specs.declared.words.Word.{Word}
+use Rattle.js_parser.specs.declared.words.Word.TheVariants as w
+use Rattle.js_parser.specs.declared.frame.Role.{Role}
+use Rattle.js_parser.specs.declared.frame.Role.TheVariants as role
+use Rattle.js_parser.specs.MemberStart.{MemberStart}
+use Rattle.js_parser.specs.ClassStart.{ClassStart}
+use Rattle.js_parser.specs.Signature.{Signature}
+use Rattle.js_parser.specs.Signature as g
+use Rattle.js_parser.specs.Frame as f
+use Rattle.js_parser.specs.MemberFrame as m
+use Rattle.js_parser.specs.StatementFrame as s
+use Rattle.js_parser.specs.ItemFrame as n
+use Rattle.js_parser.specs.ListRole.{ListRole}
+use Rattle.js_parser.specs.ListRole as l
 use Rattle.parser_forms.specs.Kept.{Sorted}
 use Rattle.parser_forms.specs.Parts as p
-use Rattle.parser_forms.specs.Ends.{put_item, put, method_kind, method, is_derived, method_end, function_end, class_end_as, class_end, switch_end, with_case, case_start, next_case, list_end, braces_end, module_end}
-use Rattle.parser_forms.specs.State.{Frames}
+use Rattle.js_parser.specs.Ends.{put_item, put, method, is_derived, method_end, function_end, class_end_as, class_end, switch_end, with_case, case_start, next_case, list_end, braces_end, module_end}
+use Rattle.parser_forms.specs.Parts.{method_kind}
+use Rattle.js_parser.specs.State.{Frames}
 use Rattle.js_parser.proofs.WordLaws.{Is}
 use Rattle.js_parser.proofs.SoundStates.{Opened, Holds, Takes, RoleFits, StartFits, SignatureFits, DefaultFits, ListFits, ReadItem, ReadItems, ReadLine, ReadBraces, ReadStatements, ParametersTaken, CaseBefore, ListBefore, MemberOpen, opener, ◌⊳◌}
 use Rattle.js_parser.proofs.SoundForms.{read_arrow_statements}

@@ -13,18 +13,19 @@ use Rattle.es_model.specs.Levels.{level, is_target, is_nullish, is_bare_new, has
 use Rattle.es_model.specs.Readings.{Tokens, Reading, word, given, First, the, here, property}
 use Rattle.es_model.specs.Spelling.{Spells, step, assigning, separated, piece, are_elements}
 use Rattle.parser_forms.specs.declared.parts.Part.{Part}
-use Rattle.parser_forms.specs.declared.frame.Infix.{Infix}
-use Rattle.parser_forms.specs.declared.frame.Infix.TheVariants as i
-use Rattle.parser_forms.specs.declared.frame.Prefix.{Prefix}
-use Rattle.parser_forms.specs.declared.frame.Prefix.TheVariants as prefix
-use Rattle.parser_forms.specs.declared.frame.Callee.{Callee}
-use Rattle.parser_forms.specs.declared.frame.Callee.TheVariants as callee
+use Rattle.parser_forms.specs.declared.kinds.Infix.{Infix}
+use Rattle.parser_forms.specs.declared.kinds.Infix.TheVariants as i
+use Rattle.parser_forms.specs.declared.kinds.Prefix.{Prefix}
+use Rattle.parser_forms.specs.declared.kinds.Prefix.TheVariants as prefix
+use Rattle.js_parser.specs.Callee.{Callee}
+use Rattle.js_parser.specs.Callee as callee
 use Rattle.parser_forms.specs.Kept.{Sorted, none, and_then, followed}
-use Rattle.parser_forms.specs.Cut.{cut}
+use Rattle.js_parser.specs.Cut.{cut}
 use Rattle.parser_forms.specs.Parts as p
-use Rattle.parser_forms.specs.Tables.{is_left_of, right_of, is_base, is_new_callee}
-use Rattle.parser_forms.specs.Ends.{called}
-use Rattle.parser_forms.proofs.Laws.{cut_none, cut_and_then}
+use Rattle.js_parser.specs.Tables.{right_of}
+use Rattle.parser_forms.specs.Asks.{is_left_of, is_base, is_new_callee}
+use Rattle.js_parser.specs.Ends.{called}
+use Rattle.js_parser.proofs.Laws.{cut_none, cut_and_then}
 use Rattle.js_parser.specs.Summary.{part_of}
 use Rattle.js_parser.proofs.FormLaws as laws
 use Rattle.js_parser.proofs.WordLaws.{infix_sign, prefix_sign}

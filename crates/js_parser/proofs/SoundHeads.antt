@@ -9,7 +9,7 @@ use Rattle.parser_forms.specs.declared.parts.Part.{Part}
 use Rattle.parser_forms.specs.declared.parts.Heading.{Heading}
 use Rattle.parser_forms.specs.declared.parts.Heading.TheVariants as h
 use Rattle.parser_forms.specs.Parts.{listed_names, enclosed}
-use Rattle.parser_forms.specs.Tables.{head_of, list_of}
+use Rattle.parser_forms.specs.Asks.{head_of, list_of}
 use Rattle.js_parser.specs.Summary.{heading}
 use Rattle.js_parser.proofs.SoundLists.{each_joined, each_last, each_comma, names_joined}
 use Rattle.js_parser.proofs.SoundStates.{Read}

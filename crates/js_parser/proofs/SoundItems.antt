@@ -12,18 +12,18 @@ use Rattle.es_model.specs.Readings as reading
 use Rattle.es_model.specs.Readings.{Tokens, Reading, the, name, the_name, is_from}
 use Rattle.es_model.specs.Spelling as spelling
 use Rattle.es_model.specs.Spelling.{outer_name, imported, exported, exported_from, default_list}
-use Rattle.parser_forms.specs.declared.words.Word.{Word}
-use Rattle.parser_forms.specs.declared.words.Word.TheVariants as w
-use Rattle.parser_forms.specs.declared.frame.Frame.TheVariants as f
-use Rattle.parser_forms.specs.declared.frame.ItemFrame.TheVariants as n
-use Rattle.parser_forms.specs.declared.frame.PairRole.{PairRole}
-use Rattle.parser_forms.specs.declared.frame.PairRole.TheVariants as pr
-use Rattle.parser_forms.specs.declared.frame.ItemDue.{ItemDue}
-use Rattle.parser_forms.specs.declared.frame.ItemDue.TheVariants as nd
+use Rattle.js_parser.specs.declared.words.Word.{Word}
+use Rattle.js_parser.specs.declared.words.Word.TheVariants as w
+use Rattle.js_parser.specs.Frame as f
+use Rattle.js_parser.specs.ItemFrame as n
+use Rattle.js_parser.specs.declared.frame.PairRole.{PairRole}
+use Rattle.js_parser.specs.declared.frame.PairRole.TheVariants as pr
+use Rattle.js_parser.specs.ItemDue.{ItemDue}
+use Rattle.js_parser.specs.ItemDue as nd
 use Rattle.parser_forms.specs.Parts as p
-use Rattle.parser_forms.specs.State.{Frames, State, the_word}
-use Rattle.parser_forms.specs.Settle.{may}
-use Rattle.parser_forms.specs.ItemSteps.{ident, default_at, is_name, at_name, import_word, import_due, import_next, import_brace, pairs_end, and_outer, pair_word, pair_due, pair_next, both_names, given_word, pair_given, other_due, from_other, export_names, export_due, default_due, item_step}
+use Rattle.js_parser.specs.State.{Frames, State, the_word}
+use Rattle.js_parser.specs.Settle.{may}
+use Rattle.js_parser.specs.ItemSteps.{ident, default_at, is_name, at_name, import_word, import_due, import_next, import_brace, pairs_end, and_outer, pair_word, pair_due, pair_next, both_names, given_word, pair_given, other_due, from_other, export_names, export_due, default_due, item_step}
 use Rattle.js_parser.proofs.WordLaws.{Is, kind_is, may_miss_is, may_miss_after_export_is, begins_no_default, no_default_is}
 use Rattle.js_parser.proofs.SoundLists.{each_commaed, each_joined, each_last, each_comma, commaed_as, pairs_joined, pairs_commaed}
 use Rattle.js_parser.proofs.SoundStates.{Opened, Holds, DueHolds, ItemTaken, PairsTaken, BehindDefault, DefaultTaken, NameTaken, exports}

@@ -12,15 +12,16 @@ use Rattle.es_model.specs.Tree.{Tree}
 use Rattle.es_model.specs.Levels.{level, Holder, InObject, InClass, is_constructor_key, may_be_fixed}
 use Rattle.es_model.specs.Readings.{Tokens, Reading, the, name, maybe_name, here}
 use Rattle.es_model.specs.Spelling.{Spells, LeftOut, There, sequence, names, static_before, accessor_word, member_function_kind, plain_function, function_member, member_reading, braces, class_name, no_more, FunctionUse}
+use Rattle.parser_forms.specs.Parts.{method_kind}
 use Rattle.parser_forms.specs.declared.parts.Part.{Part}
-use Rattle.parser_forms.specs.declared.frame.Role.TheVariants as role
-use Rattle.parser_forms.specs.declared.frame.MemberStart.{MemberStart}
-use Rattle.parser_forms.specs.declared.frame.Signature.TheVariants as g
-use Rattle.parser_forms.specs.declared.frame.MemberFrame.TheVariants as m
+use Rattle.js_parser.specs.declared.frame.Role.TheVariants as role
+use Rattle.js_parser.specs.MemberStart.{MemberStart}
+use Rattle.js_parser.specs.Signature as g
+use Rattle.js_parser.specs.MemberFrame as m
 use Rattle.parser_forms.specs.Kept.{Sorted, none, and_then, followed}
 use Rattle.parser_forms.specs.Parts as p
-use Rattle.parser_forms.specs.Ends as ends
-use Rattle.parser_forms.proofs.Laws.{cut_none, cut_and_then}
+use Rattle.js_parser.specs.Ends as ends
+use Rattle.js_parser.proofs.Laws.{cut_none, cut_and_then}
 use Rattle.js_parser.specs.Summary.{key_of}
 use Rattle.js_parser.proofs.FormLaws as laws
 use Rattle.js_parser.proofs.SoundLists.{grown, members_last, members_comma, class_semicolon, class_more}
@@ -68,14 +69,14 @@ read_function_default at own place list body from a to (e, (d, (c, (ok, (b, (n, 
 
 -- Members.
 
-due_in_object : (kinded : MemberKind) (fixed : Bool) (key : Tree t.key) → IsOfFunction kinded → ends.method_kind kinded true false false ≡ member_function_kind InObject fixed kinded key
+due_in_object : (kinded : MemberKind) (fixed : Bool) (key : Tree t.key) → IsOfFunction kinded → method_kind kinded true false false ≡ member_function_kind InObject fixed kinded key
 due_in_object kind.Method fixed key h = refl
 due_in_object kind.Getter fixed key h = refl
 due_in_object kind.Setter fixed key h = refl
 due_in_object kind.Value fixed key h = absurd h
 due_in_object kind.Short fixed key h = absurd h
 
-due_in_class : (kinded : MemberKind) (fixed derived : Bool) (key : Tree t.key) → IsOfFunction kinded → ends.method_kind kinded fixed (is_constructor_key key) derived ≡ member_function_kind (InClass derived) fixed kinded key
+due_in_class : (kinded : MemberKind) (fixed derived : Bool) (key : Tree t.key) → IsOfFunction kinded → method_kind kinded fixed (is_constructor_key key) derived ≡ member_function_kind (InClass derived) fixed kinded key
 due_in_class kind.Getter fixed derived key h = refl
 due_in_class kind.Setter fixed derived key h = refl
 due_in_class kind.Value fixed derived key h = absurd h
@@ -83,7 +84,7 @@ due_in_class kind.Short fixed derived key h = absurd h
 due_in_class kind.Method true derived key h = refl
 due_in_class kind.Method false derived key h = by (is_constructor_key key) refl derived
   where
-    by : (b : Bool) → is_constructor_key key ≡ b → (derived : Bool) → ends.method_kind kind.Method false (is_constructor_key key) derived ≡ member_function_kind (InClass derived) false kind.Method key
+    by : (b : Bool) → is_constructor_key key ≡ b → (derived : Bool) → method_kind kind.Method false (is_constructor_key key) derived ≡ member_function_kind (InClass derived) false kind.Method key
     by true e true = rw e refl
     by true e false = rw e refl
     by false e true = rw e refl
@@ -115,15 +116,15 @@ method_read holder start due list body from a to ok may is_due (e, (d, (c, (plac
     by key reading function kind.Short h r = absurd h
 
 pub read_object_method : (start : MemberStart) (list : List Identifier) (body : Sorted (t.list t.statement)) (from a to : Tokens) → IsOfFunction start.kind → start.fixed ≡ false →
-    ParametersTaken (g.Method start) list from a → ReadBraces body a to → ReadMember InObject (ends.method start (ends.method_kind start.kind true false false) list body) from to
+    ParametersTaken (g.Method start) list from a → ReadBraces body a to → ReadMember InObject (ends.method start (method_kind start.kind true false false) list body) from to
 read_object_method start list body from a to ok free taken read =
-    method_read InObject start (ends.method_kind start.kind true false false) list body from a to ok (subst (λ b. may_be_fixed InObject b ≡ true) (sym free) refl) (λ key q. due_in_object start.kind start.fixed key ok) taken read
+    method_read InObject start (method_kind start.kind true false false) list body from a to ok (subst (λ b. may_be_fixed InObject b ≡ true) (sym free) refl) (λ key q. due_in_object start.kind start.fixed key ok) taken read
 
 pub read_class_method : (derived : Bool) (start : MemberStart) (list : List Identifier) (body : Sorted (t.list t.statement)) (from a to : Tokens) → IsOfFunction start.kind →
-    ParametersTaken (g.Method start) list from a → ReadBraces body a to → ReadMember (InClass derived) (ends.method start (ends.method_kind start.kind start.fixed start.key.is_constructor derived) list body) from to
+    ParametersTaken (g.Method start) list from a → ReadBraces body a to → ReadMember (InClass derived) (ends.method start (method_kind start.kind start.fixed start.key.is_constructor derived) list body) from to
 read_class_method derived start list body from a to ok taken read =
-    method_read (InClass derived) start (ends.method_kind start.kind start.fixed start.key.is_constructor derived) list body from a to ok refl
-    (λ key q. ap (λ u. ends.method_kind start.kind start.fixed u.is_constructor derived) (sym q) ∙ due_in_class start.kind start.fixed derived key ok) taken read
+    method_read (InClass derived) start (method_kind start.kind start.fixed start.key.is_constructor derived) list body from a to ok refl
+    (λ key q. ap (λ u. method_kind start.kind start.fixed u.is_constructor derived) (sym q) ∙ due_in_class start.kind start.fixed derived key ok) taken read
 
 pub read_computed_key : (part : Part) (from a b to : Tokens) → the "[" from a → Read part a b → 2 ≤ part.level → the "]" b to → ReadKey (p.computed_key part) from to
 unfolding Spells

@@ -13,27 +13,27 @@ use Rattle.es_model.specs.Tree as t
 use Rattle.es_model.specs.Tree.{Text}
 use Rattle.es_model.specs.Readings.{Tokens, word, the, name, plain_name, here}
 use Rattle.es_model.specs.Spelling.{Spells, static_before, accessor_word, member_parameters}
-use Rattle.parser_forms.specs.declared.words.Word.{Word}
-use Rattle.parser_forms.specs.declared.words.Word.TheVariants as w
-use Rattle.parser_forms.specs.declared.frame.MemberStart.{MemberStart}
-use Rattle.parser_forms.specs.declared.frame.ClassStart.{ClassStart}
-use Rattle.parser_forms.specs.declared.frame.Signature.{Signature}
-use Rattle.parser_forms.specs.declared.frame.Signature.TheVariants as g
-use Rattle.parser_forms.specs.declared.frame.Role.{Role}
-use Rattle.parser_forms.specs.declared.frame.Role.TheVariants as role
-use Rattle.parser_forms.specs.declared.frame.Frame.TheVariants as f
-use Rattle.parser_forms.specs.declared.frame.ExpressionFrame.TheVariants as x
-use Rattle.parser_forms.specs.declared.frame.MemberFrame.TheVariants as m
-use Rattle.parser_forms.specs.declared.frame.ExpressionDue.{ExpressionDue}
-use Rattle.parser_forms.specs.declared.frame.ExpressionDue.TheVariants as xd
-use Rattle.parser_forms.specs.declared.frame.MemberDue.{MemberDue}
-use Rattle.parser_forms.specs.declared.frame.MemberDue.TheVariants as md
-use Rattle.parser_forms.specs.Words.{sign_word}
+use Rattle.js_parser.specs.declared.words.Word.{Word}
+use Rattle.js_parser.specs.declared.words.Word.TheVariants as w
+use Rattle.js_parser.specs.MemberStart.{MemberStart}
+use Rattle.js_parser.specs.ClassStart.{ClassStart}
+use Rattle.js_parser.specs.Signature.{Signature}
+use Rattle.js_parser.specs.Signature as g
+use Rattle.js_parser.specs.declared.frame.Role.{Role}
+use Rattle.js_parser.specs.declared.frame.Role.TheVariants as role
+use Rattle.js_parser.specs.Frame as f
+use Rattle.js_parser.specs.ExpressionFrame as x
+use Rattle.js_parser.specs.MemberFrame as m
+use Rattle.js_parser.specs.ExpressionDue.{ExpressionDue}
+use Rattle.js_parser.specs.ExpressionDue as xd
+use Rattle.js_parser.specs.MemberDue.{MemberDue}
+use Rattle.js_parser.specs.MemberDue as md
+use Rattle.js_parser.specs.Words.{sign_word}
 use Rattle.parser_forms.specs.Kept.{Sorted}
 use Rattle.parser_forms.specs.Parts as p
-use Rattle.parser_forms.specs.State.{Frames, State, fail, the_word}
-use Rattle.parser_forms.specs.Ends.{is_derived}
-use Rattle.parser_forms.specs.MemberSteps.{ident, property, super_arguments, super_word, arrow_word, arrow_body, expression_step, start_of, keyword_key, sign_key, key_kind, name_start, member_kind, member_start, object_key, class_key, key_next, accessor, fixed_member, object_member, class_member, member_due, member_next, is_setter, is_setter_of, is_getter, is_getter_of, function_name, parameter_end, parameter, parameter_next, class_next, class_name, open_paren, open_brace, member_step}
+use Rattle.js_parser.specs.State.{Frames, State, fail, the_word}
+use Rattle.js_parser.specs.Ends.{is_derived}
+use Rattle.js_parser.specs.MemberSteps.{ident, property, super_arguments, super_word, arrow_word, arrow_body, expression_step, start_of, keyword_key, sign_key, key_kind, name_start, member_kind, member_start, object_key, class_key, key_next, accessor, fixed_member, object_member, class_member, member_due, member_next, is_setter, is_setter_of, is_getter, is_getter_of, function_name, parameter_end, parameter, parameter_next, class_next, class_name, open_paren, open_brace, member_step}
 use Rattle.js_parser.proofs.FormLaws as laws
 use Rattle.js_parser.proofs.WordLaws.{Is, kind_is, begins_no_body, no_body_is}
 use Rattle.js_parser.proofs.SoundLists.{each_last, each_comma, names_joined, names_commaed}

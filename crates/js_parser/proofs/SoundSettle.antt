@@ -17,29 +17,30 @@ use Rattle.es_model.specs.Levels.{InObject, right_level, operator_level, assignm
 use Rattle.es_model.specs.Readings as reading
 use Rattle.es_model.specs.Readings.{Tokens, word, semicolon}
 use Rattle.es_model.specs.Spelling.{assigning, declaring_word}
-use Rattle.parser_forms.specs.declared.words.Word.{Word}
-use Rattle.parser_forms.specs.declared.words.Word.TheVariants as w
+use Rattle.js_parser.specs.declared.words.Word.{Word}
+use Rattle.js_parser.specs.declared.words.Word.TheVariants as w
 use Rattle.parser_forms.specs.declared.parts.Part.{Part}
-use Rattle.parser_forms.specs.declared.frame.Infix.{Infix}
-use Rattle.parser_forms.specs.declared.frame.Infix.TheVariants as i
-use Rattle.parser_forms.specs.declared.frame.Callee.{Callee}
-use Rattle.parser_forms.specs.declared.frame.Callee.TheVariants as callee
-use Rattle.parser_forms.specs.declared.frame.Frame.{Frame}
-use Rattle.parser_forms.specs.declared.frame.Frame.TheVariants as f
-use Rattle.parser_forms.specs.declared.frame.ExpressionFrame.TheVariants as x
-use Rattle.parser_forms.specs.declared.frame.MemberFrame.TheVariants as m
-use Rattle.parser_forms.specs.declared.frame.StatementFrame.TheVariants as s
-use Rattle.parser_forms.specs.declared.frame.ItemFrame.TheVariants as n
-use Rattle.parser_forms.specs.declared.frame.DeclareRole.{DeclareRole}
-use Rattle.parser_forms.specs.declared.frame.DeclareRole.TheVariants as d
-use Rattle.parser_forms.specs.declared.frame.Opening.{Opening}
-use Rattle.parser_forms.specs.declared.frame.Opening.TheVariants as o
+use Rattle.parser_forms.specs.declared.kinds.Infix.{Infix}
+use Rattle.parser_forms.specs.declared.kinds.Infix.TheVariants as i
+use Rattle.js_parser.specs.Callee.{Callee}
+use Rattle.js_parser.specs.Callee as callee
+use Rattle.js_parser.specs.Frame.{Frame}
+use Rattle.js_parser.specs.Frame as f
+use Rattle.js_parser.specs.ExpressionFrame as x
+use Rattle.js_parser.specs.MemberFrame as m
+use Rattle.js_parser.specs.StatementFrame as s
+use Rattle.js_parser.specs.ItemFrame as n
+use Rattle.js_parser.specs.declared.frame.DeclareRole.{DeclareRole}
+use Rattle.js_parser.specs.declared.frame.DeclareRole.TheVariants as d
+use Rattle.js_parser.specs.declared.frame.Opening.{Opening}
+use Rattle.js_parser.specs.declared.frame.Opening.TheVariants as o
 use Rattle.parser_forms.specs.Kept.{Sorted, none, and_then}
 use Rattle.parser_forms.specs.Parts as p
 use Rattle.parser_forms.specs.Parts.{infix_level}
-use Rattle.parser_forms.specs.Tables.{infix_of, assignment_of, gives_other, gives_by, gives, is_left_of, right_of, is_base, is_new_callee, head_of, slot_of, slot, goes_on_in, is_semicolon}
-use Rattle.parser_forms.specs.State.{Frames, State, fail, operand_due, the_word}
-use Rattle.parser_forms.specs.Settle.{statement_end, item_end, may, names_end, arrow_where, taken_as, taken_by, taken, arguments_end, items_end, template_end, at_paren, at_bracket, at_colon, at_semicolon, at_brace, object_next, test_end, initialiser_end, ended, new_end, closed, settle}
+use Rattle.js_parser.specs.Tables.{infix_of, assignment_of, gives_other, gives_by, gives, right_of, slot_of, slot, goes_on_in, is_semicolon}
+use Rattle.parser_forms.specs.Asks.{is_left_of, is_base, is_new_callee, head_of}
+use Rattle.js_parser.specs.State.{Frames, State, fail, operand_due, the_word}
+use Rattle.js_parser.specs.Settle.{statement_end, item_end, may, names_end, arrow_where, taken_as, taken_by, taken, arguments_end, items_end, template_end, at_paren, at_bracket, at_colon, at_semicolon, at_brace, object_next, test_end, initialiser_end, ended, new_end, closed, settle}
 use Rattle.js_parser.proofs.WordLaws.{Is, kind_is, may_miss_is, IsInfix, IsAssignment, IsSign, infix_is, assignment_is}
 use Rattle.js_parser.proofs.SoundStates.{Opened, Holds, Takes, DeclareFits, Fits, Taken, Read, ReadItem, ReadLine, ReadMember, BehindDeclare, TestTaken, lowest_of, lowest}
 use Rattle.js_parser.proofs.SoundForms.{read_of, read_none, read_last, read_comma, read_called, read_array, read_paren, read_index, read_super_index, read_pieces_more, read_template, read_update_before, read_update_behind, read_bare_new, read_prefix, read_infix, read_conditional, read_assign, read_arrow}

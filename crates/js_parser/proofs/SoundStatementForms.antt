@@ -10,22 +10,22 @@ use Rattle.es_model.specs.Levels.{defaults}
 use Rattle.es_model.specs.Readings.{Tokens, Reading, word, the, name, here, semicolon, may_miss, may_miss_bare, may_miss_after_do, may_miss_after_export}
 use Rattle.es_model.specs.Spelling.{Spells, joined, declaring_word, Initialised, exported, braced}
 use Rattle.parser_forms.specs.declared.parts.Part.{Part}
-use Rattle.parser_forms.specs.declared.frame.Opening.TheVariants as o
-use Rattle.parser_forms.specs.declared.frame.Jump.{Jump}
-use Rattle.parser_forms.specs.declared.frame.Jump.TheVariants as j
-use Rattle.parser_forms.specs.declared.frame.ListRole.TheVariants as l
-use Rattle.parser_forms.specs.declared.frame.PairRole.{PairRole}
-use Rattle.parser_forms.specs.declared.frame.PairRole.TheVariants as pr
-use Rattle.parser_forms.specs.declared.frame.StatementFrame.TheVariants as s
-use Rattle.parser_forms.specs.declared.frame.ItemFrame.TheVariants as n
-use Rattle.parser_forms.specs.declared.frame.StatementDue.TheVariants as sd
-use Rattle.parser_forms.specs.declared.frame.ItemDue.TheVariants as nd
+use Rattle.js_parser.specs.declared.frame.Opening.TheVariants as o
+use Rattle.js_parser.specs.declared.frame.Jump.{Jump}
+use Rattle.js_parser.specs.declared.frame.Jump.TheVariants as j
+use Rattle.js_parser.specs.ListRole as l
+use Rattle.js_parser.specs.declared.frame.PairRole.{PairRole}
+use Rattle.js_parser.specs.declared.frame.PairRole.TheVariants as pr
+use Rattle.js_parser.specs.StatementFrame as s
+use Rattle.js_parser.specs.ItemFrame as n
+use Rattle.js_parser.specs.StatementDue as sd
+use Rattle.js_parser.specs.ItemDue as nd
 use Rattle.parser_forms.specs.Kept.{Sorted, none, and_then, followed}
-use Rattle.parser_forms.specs.Cut.{cut}
+use Rattle.js_parser.specs.Cut.{cut}
 use Rattle.parser_forms.specs.Parts as p
-use Rattle.parser_forms.specs.StatementSteps.{jump}
-use Rattle.parser_forms.specs.ItemSteps.{from_other}
-use Rattle.parser_forms.proofs.Laws.{cut_none, cut_and_then}
+use Rattle.js_parser.specs.StatementSteps.{jump}
+use Rattle.js_parser.specs.ItemSteps.{from_other}
+use Rattle.js_parser.proofs.Laws.{cut_none, cut_and_then}
 use Rattle.js_parser.specs.Summary.{option_of}
 use Rattle.js_parser.proofs.FormLaws as laws
 use Rattle.js_parser.proofs.SoundLists.{grown, commaed_more, joined_last, sequence_more, initialised_more, defaults_default, defaults_case}

@@ -8,18 +8,18 @@ use Rattle.es_model.specs.declared.token.TokenKind.TheVariants as k
 use Rattle.es_model.specs.Tree as t
 use Rattle.es_model.specs.Readings as reading
 use Rattle.es_model.specs.Readings.{Tokens, word}
-use Rattle.parser_forms.specs.declared.words.Word.{Word}
-use Rattle.parser_forms.specs.declared.words.Word.TheVariants as w
-use Rattle.parser_forms.specs.declared.frame.Frame.TheVariants as f
-use Rattle.parser_forms.specs.declared.frame.StatementFrame.TheVariants as s
-use Rattle.parser_forms.specs.declared.frame.DeclareRole.{DeclareRole}
-use Rattle.parser_forms.specs.declared.frame.StatementDue.{StatementDue}
-use Rattle.parser_forms.specs.declared.frame.StatementDue.TheVariants as sd
+use Rattle.js_parser.specs.declared.words.Word.{Word}
+use Rattle.js_parser.specs.declared.words.Word.TheVariants as w
+use Rattle.js_parser.specs.Frame as f
+use Rattle.js_parser.specs.StatementFrame as s
+use Rattle.js_parser.specs.declared.frame.DeclareRole.{DeclareRole}
+use Rattle.js_parser.specs.StatementDue.{StatementDue}
+use Rattle.js_parser.specs.StatementDue as sd
 use Rattle.parser_forms.specs.Kept.{Sorted, and_then}
 use Rattle.parser_forms.specs.Parts as p
-use Rattle.parser_forms.specs.Tables.{is_semicolon, ends}
-use Rattle.parser_forms.specs.State.{Frames, State, fail, the_word}
-use Rattle.parser_forms.specs.StatementSteps.{at_paren, at_brace, at_colon, at_close, case_due, for_head, for_test, for_step, name_due, name_end, name_next, jump, bare_may, return_due, guard_due, catch_due, catch_name, finally_due, statement_step}
+use Rattle.js_parser.specs.Tables.{is_semicolon, ends}
+use Rattle.js_parser.specs.State.{Frames, State, fail, the_word}
+use Rattle.js_parser.specs.StatementSteps.{at_paren, at_brace, at_colon, at_close, case_due, for_head, for_test, for_step, name_due, name_end, name_next, jump, bare_may, return_due, guard_due, catch_due, catch_name, finally_due, statement_step}
 use Rattle.js_parser.proofs.WordLaws.{Is, kind_is, may_miss_bare_is, may_miss_after_do_is}
 use Rattle.js_parser.proofs.SoundStates.{Opened, Holds, DueHolds, Takes, DeclareFits, StatementDueFits, StatementTaken}
 use Rattle.js_parser.proofs.SoundStatementForms.{read_no_statements, read_no_cases, read_no_names, read_head_nothing, read_left_out, read_name_comma, read_name_last, read_short_if, read_do, read_jump, read_bare_return, read_try_catch}

@@ -14,51 +14,52 @@ use Rattle.es_model.specs.Levels.{level, assignment_sign, is_declaration, ends_i
 use Rattle.es_model.specs.Readings.{Tokens, Reading, nothing, never, ◌▸◌, ◌∣◌, given, First, the, name, maybe_name, the_name, here, same_line, any_of}
 use Rattle.es_model.specs.Spelling.{Spells, step, assigning, arrow_names, one_name, no_name, member_parameters, static_before, accessor_word, declaring_word, Initialised, catch_name, sequence, maybe, are_elements, FunctionUse, class_members, imported, exported_from, exported, braced, default_name, default_list, import_list, module_name}
 use Rattle.parser_forms.specs.declared.parts.Part.{Part}
-use Rattle.parser_forms.specs.declared.frame.Callee.{Callee}
-use Rattle.parser_forms.specs.declared.frame.Callee.TheVariants as callee
-use Rattle.parser_forms.specs.declared.frame.Role.{Role}
-use Rattle.parser_forms.specs.declared.frame.Role.TheVariants as role
-use Rattle.parser_forms.specs.declared.frame.KeyPart.{KeyPart}
-use Rattle.parser_forms.specs.declared.frame.MemberStart.{MemberStart}
-use Rattle.parser_forms.specs.declared.frame.ClassStart.{ClassStart}
-use Rattle.parser_forms.specs.declared.frame.Signature.{Signature}
-use Rattle.parser_forms.specs.declared.frame.Signature.TheVariants as g
-use Rattle.parser_forms.specs.declared.frame.Frame.{Frame}
-use Rattle.parser_forms.specs.declared.frame.Frame.TheVariants as f
-use Rattle.parser_forms.specs.declared.frame.ExpressionFrame.{ExpressionFrame}
-use Rattle.parser_forms.specs.declared.frame.ExpressionFrame.TheVariants as x
-use Rattle.parser_forms.specs.declared.frame.MemberFrame.{MemberFrame}
-use Rattle.parser_forms.specs.declared.frame.MemberFrame.TheVariants as m
-use Rattle.parser_forms.specs.declared.frame.StatementFrame.{StatementFrame}
-use Rattle.parser_forms.specs.declared.frame.StatementFrame.TheVariants as s
-use Rattle.parser_forms.specs.declared.frame.ItemFrame.{ItemFrame}
-use Rattle.parser_forms.specs.declared.frame.ItemFrame.TheVariants as n
-use Rattle.parser_forms.specs.declared.frame.ListRole.{ListRole}
-use Rattle.parser_forms.specs.declared.frame.ListRole.TheVariants as l
-use Rattle.parser_forms.specs.declared.frame.DeclareRole.{DeclareRole}
-use Rattle.parser_forms.specs.declared.frame.DeclareRole.TheVariants as d
-use Rattle.parser_forms.specs.declared.frame.Opening.{Opening}
-use Rattle.parser_forms.specs.declared.frame.Opening.TheVariants as o
-use Rattle.parser_forms.specs.declared.frame.Jump.{Jump}
-use Rattle.parser_forms.specs.declared.frame.Jump.TheVariants as j
-use Rattle.parser_forms.specs.declared.frame.PairRole.{PairRole}
-use Rattle.parser_forms.specs.declared.frame.PairRole.TheVariants as pr
-use Rattle.parser_forms.specs.declared.frame.ExpressionDue.{ExpressionDue}
-use Rattle.parser_forms.specs.declared.frame.ExpressionDue.TheVariants as xd
-use Rattle.parser_forms.specs.declared.frame.MemberDue.{MemberDue}
-use Rattle.parser_forms.specs.declared.frame.MemberDue.TheVariants as md
-use Rattle.parser_forms.specs.declared.frame.StatementDue.{StatementDue}
-use Rattle.parser_forms.specs.declared.frame.StatementDue.TheVariants as sd
-use Rattle.parser_forms.specs.declared.frame.ItemDue.{ItemDue}
-use Rattle.parser_forms.specs.declared.frame.ItemDue.TheVariants as nd
-use Rattle.parser_forms.specs.declared.frame.Control.{Control}
-use Rattle.parser_forms.specs.declared.frame.Control.TheVariants as c
+use Rattle.js_parser.specs.Callee.{Callee}
+use Rattle.js_parser.specs.Callee as callee
+use Rattle.js_parser.specs.declared.frame.Role.{Role}
+use Rattle.js_parser.specs.declared.frame.Role.TheVariants as role
+use Rattle.parser_forms.specs.declared.parts.KeyPart.{KeyPart}
+use Rattle.js_parser.specs.MemberStart.{MemberStart}
+use Rattle.js_parser.specs.ClassStart.{ClassStart}
+use Rattle.js_parser.specs.Signature.{Signature}
+use Rattle.js_parser.specs.Signature as g
+use Rattle.js_parser.specs.Frame.{Frame}
+use Rattle.js_parser.specs.Frame as f
+use Rattle.js_parser.specs.ExpressionFrame.{ExpressionFrame}
+use Rattle.js_parser.specs.ExpressionFrame as x
+use Rattle.js_parser.specs.MemberFrame.{MemberFrame}
+use Rattle.js_parser.specs.MemberFrame as m
+use Rattle.js_parser.specs.StatementFrame.{StatementFrame}
+use Rattle.js_parser.specs.StatementFrame as s
+use Rattle.js_parser.specs.ItemFrame.{ItemFrame}
+use Rattle.js_parser.specs.ItemFrame as n
+use Rattle.js_parser.specs.ListRole.{ListRole}
+use Rattle.js_parser.specs.ListRole as l
+use Rattle.js_parser.specs.declared.frame.DeclareRole.{DeclareRole}
+use Rattle.js_parser.specs.declared.frame.DeclareRole.TheVariants as d
+use Rattle.js_parser.specs.declared.frame.Opening.{Opening}
+use Rattle.js_parser.specs.declared.frame.Opening.TheVariants as o
+use Rattle.js_parser.specs.declared.frame.Jump.{Jump}
+use Rattle.js_parser.specs.declared.frame.Jump.TheVariants as j
+use Rattle.js_parser.specs.declared.frame.PairRole.{PairRole}
+use Rattle.js_parser.specs.declared.frame.PairRole.TheVariants as pr
+use Rattle.js_parser.specs.ExpressionDue.{ExpressionDue}
+use Rattle.js_parser.specs.ExpressionDue as xd
+use Rattle.js_parser.specs.MemberDue.{MemberDue}
+use Rattle.js_parser.specs.MemberDue as md
+use Rattle.js_parser.specs.StatementDue.{StatementDue}
+use Rattle.js_parser.specs.StatementDue as sd
+use Rattle.js_parser.specs.ItemDue.{ItemDue}
+use Rattle.js_parser.specs.ItemDue as nd
+use Rattle.js_parser.specs.Control.{Control}
+use Rattle.js_parser.specs.Control as c
 use Rattle.parser_forms.specs.Kept.{Sorted}
-use Rattle.parser_forms.specs.Cut.{cut}
+use Rattle.js_parser.specs.Cut.{cut}
 use Rattle.parser_forms.specs.Parts.{infix_level}
-use Rattle.parser_forms.specs.Tables.{is_left_of, is_base, is_new_callee, slot_of}
-use Rattle.parser_forms.specs.Ends.{is_derived}
-use Rattle.parser_forms.specs.State.{Frames, State, state}
+use Rattle.js_parser.specs.Tables.{slot_of}
+use Rattle.parser_forms.specs.Asks.{is_left_of, is_base, is_new_callee}
+use Rattle.js_parser.specs.Ends.{is_derived}
+use Rattle.js_parser.specs.State.{Frames, State, state}
 use Rattle.js_parser.specs.Summary.{part_of, key_of, option_of}
 use Rattle.js_parser.proofs.WordLaws.{infix_sign, prefix_sign}
 use Rattle.js_parser.proofs.SoundLists.{commaed, pieced, commaed_members, joined_members, each_commaed, each_joined}

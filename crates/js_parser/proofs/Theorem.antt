@@ -9,12 +9,12 @@ use Rattle.es_model.specs.Tree.{Tree}
 use Rattle.es_model.specs.Readings.{Tokens}
 use Rattle.es_model.specs.Nesting.{nesting}
 use Rattle.es_model.specs.Spelling.{spells}
-use Rattle.parser_forms.specs.declared.frame.Control.{Control}
-use Rattle.parser_forms.specs.declared.frame.Control.TheVariants as c
+use Rattle.js_parser.specs.Control.{Control}
+use Rattle.js_parser.specs.Control as c
 use Rattle.parser_forms.specs.Kept.{Sorted}
-use Rattle.parser_forms.specs.Cut.{cut}
-use Rattle.parser_forms.specs.State.{Frames, State, state, fail}
-use Rattle.parser_forms.specs.Machine.{step, run, start, Answer, Parsed, TooDeep, Syntax, answer, answer_from, unless_failed}
+use Rattle.js_parser.specs.Cut.{cut}
+use Rattle.js_parser.specs.State.{Frames, State, state, fail}
+use Rattle.js_parser.specs.Machine.{step, run, start, Answer, Parsed, TooDeep, Syntax, answer, answer_from, unless_failed}
 use Rattle.js_parser.specs.Parsed.{shape, NoneGoesOn, Answers, EndsLast, result_of}
 use Rattle.js_parser.proofs.Moved.{Alike}
 use Rattle.js_parser.proofs.Over.{IsOver, over}

@@ -11,15 +11,15 @@ use Rattle.es_model.specs.Readings as g
 use Rattle.es_model.specs.Readings.{word, same_kind, any_of, is}
 use Rattle.es_model.specs.declared.kinds.BinaryOperator.{BinaryOperator}
 use Rattle.es_model.specs.Levels.{operator_sign, assignment_sign, unary_sign}
-use Rattle.parser_forms.specs.declared.words.Word.{Word}
-use Rattle.parser_forms.specs.declared.words.Word.TheVariants as w
-use Rattle.parser_forms.specs.declared.frame.Infix.{Infix}
-use Rattle.parser_forms.specs.declared.frame.Infix.TheVariants as i
-use Rattle.parser_forms.specs.declared.frame.Prefix.{Prefix}
-use Rattle.parser_forms.specs.declared.frame.Prefix.TheVariants as p
-use Rattle.parser_forms.specs.Words.{keyword_words, sign_words, keyword_word, sign_word, word_of}
-use Rattle.parser_forms.specs.Tables as t
-use Rattle.parser_forms.specs.State.{the_word}
+use Rattle.js_parser.specs.declared.words.Word.{Word}
+use Rattle.js_parser.specs.declared.words.Word.TheVariants as w
+use Rattle.parser_forms.specs.declared.kinds.Infix.{Infix}
+use Rattle.parser_forms.specs.declared.kinds.Infix.TheVariants as i
+use Rattle.parser_forms.specs.declared.kinds.Prefix.{Prefix}
+use Rattle.parser_forms.specs.declared.kinds.Prefix.TheVariants as p
+use Rattle.js_parser.specs.Words.{keyword_words, sign_words, keyword_word, sign_word, word_of}
+use Rattle.js_parser.specs.Tables as t
+use Rattle.js_parser.specs.State.{the_word}
 
 -- Words.
 

@@ -8,7 +8,7 @@ use Rattle.es_model.specs.Tree.{Tree}
 use Rattle.es_model.specs.Readings.{Tokens}
 use Rattle.es_model.specs.Nesting.{nesting}
 use Rattle.es_model.specs.Spelling.{spells}
-use Rattle.parser_forms.specs.Machine.{Answer, Parsed, TooDeep, Syntax}
+use Rattle.js_parser.specs.Machine.{Answer, Parsed, TooDeep, Syntax}
 use Rattle.js_parser.specs.declared.fault.ParseFault.{ParseFault}
 use Rattle.js_parser.specs.declared.fault.ParseFault.TheVariants as fault
 

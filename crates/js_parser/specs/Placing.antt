@@ -1,13 +1,16 @@
 -- What it comes to that a statement is put into the innermost form.
-use Rattle.std.specs.Prelude.{◌≡◌}
+use Rattle.std.specs.Prelude.{◌≡◌, List}
 use Rattle.es_model.specs.Tree as t
 use Rattle.parser_forms.specs.Kept.{Sorted}
-use Rattle.parser_forms.specs.State.{Frames, State}
+use Rattle.parser_forms.specs.Pieces.{Pieces, first, rest, statement_in}
+use Rattle.js_parser.specs.State.{Frames, State}
+use Rattle.js_parser.specs.Held.{frames}
 use Rattle.js_parser.specs.Shows.{Shows}
+use Rattle.js_parser.specs.declared.frame.Frame as the_frame
 use Rattle.js_parser.specs.declared.puts.Placed.{Placed}
 use Rattle.js_parser.specs.declared.puts.Placed.TheVariants as placed
 
--- the code stands in the state, or the form that is now complete is put into the forms round it by `again`
-abbrev pub Places : State → (Frames → Sorted t.statement → State) → Placed → Frames → Frames → Type 0
-Places st again (placed.Stands control) before left = Shows st control left
-Places st again (placed.Complete line) before left = (left ≡ before) × (st ≡ again before line)
+-- the code stands in the state, or a form is now complete, which `again` puts into the forms round it
+abbrev pub Places : State → (Frames → Sorted t.statement → State) → Placed → List the_frame.Frame → Pieces → Type 0
+Places st again (placed.Stands now) forms pieces = Shows st now forms pieces
+Places st again placed.Complete forms pieces = st ≡ again (frames forms (rest pieces)) (statement_in (first pieces))

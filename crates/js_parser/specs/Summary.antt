@@ -6,9 +6,9 @@ use Rattle.es_model.specs.Levels.{level, is_target, is_nullish, is_bare_new, has
 use Rattle.parser_forms.specs.declared.parts.Part.{Part}
 use Rattle.parser_forms.specs.declared.parts.Heading.{Heading}
 use Rattle.parser_forms.specs.declared.parts.Heading.TheVariants as h
-use Rattle.parser_forms.specs.declared.frame.KeyPart.{KeyPart}
+use Rattle.parser_forms.specs.declared.parts.KeyPart.{KeyPart}
 use Rattle.parser_forms.specs.Kept.{Sorted}
-use Rattle.parser_forms.specs.Cut.{cut}
+use Rattle.js_parser.specs.Cut.{cut}
 use Rattle.parser_forms.specs.Parts.{listed_names, enclosed}
 
 -- what an expression is as the head of an arrow

@@ -1,30 +1,31 @@
 //! The heads of functions and classes (ECMA-262, 15). The one error of a call is want of memory.
 
-ghost use Rattle.std.specs.Prelude.{◌≡◌, ◌++◌, ◌∷◌, [], IfOk};
+ghost use Rattle.std.specs.Prelude.{◌≡◌, ◌∷◌, [], IfOk};
 ghost use Rattle.es_model.specs.declared.token.TokenKind.TheVariants as k;
 ghost use Rattle.parser_forms.specs.Kept.{none};
-ghost use Rattle.parser_forms.specs.MemberSteps as s;
-ghost use Rattle.parser_forms.specs.State.{member_part, statement_due, the_word};
-ghost use Rattle.parser_forms.specs.declared.frame.Frame.TheVariants as f;
-ghost use Rattle.parser_forms.specs.declared.frame.ListRole.TheVariants as l;
-ghost use Rattle.parser_forms.specs.declared.frame.MemberDue.TheVariants as md;
-ghost use Rattle.parser_forms.specs.declared.frame.StatementFrame.TheVariants as st;
-ghost use Rattle.parser_forms.specs.declared.words.Word.TheVariants as w;
+ghost use Rattle.parser_forms.specs.Pieces.{Pieces, first, given_name, names_in, rest};
+ghost use Rattle.js_parser.specs.Frame as f;
+ghost use Rattle.js_parser.specs.Held as h;
+ghost use Rattle.js_parser.specs.ListRole as l;
+ghost use Rattle.js_parser.specs.MemberDue as md;
+ghost use Rattle.js_parser.specs.MemberSteps as s;
 ghost use Rattle.js_parser.specs.Shows.{Shows};
+ghost use Rattle.js_parser.specs.State.{member_part, statement_due, the_word};
+ghost use Rattle.js_parser.specs.StatementFrame as st;
+ghost use Rattle.js_parser.specs.declared.words.Word.TheVariants as w;
 
-use crate::puts::open_form;
-use crate::texts::identifier;
-use es_model::{Identifier, MemberKind, Token, TokenKind, TreeList};
-use js_value::Units;
-use parser_forms::{
-    ClassStart, Control, Frame, ListRole, Lose, MemberDue, MemberFrame, Role, Signature, Stack,
-    StatementFrame, Word, no_members, no_statements, word_of_kind,
+use crate::frame::{
+    ClassStart, Control, Frame, ListRole, MemberDue, MemberFrame, Role, Signature, StatementFrame,
 };
-use std::alloc::{AllocError, Global};
+use crate::words::{Word, word_of_kind};
+use es_model::{MemberKind, Token, TokenKind};
+use js_value::Units;
+use parser_forms::{Piece, Stack};
+use std::alloc::AllocError;
 
 // A getter has no parameter; a setter has one, with no comma behind it.
-fn is_setter_of(signature: &Signature) -> bool
-    ensures { result ≡ s.is_setter_of signature.now }
+fn is_setter_of(signature: Signature) -> bool
+    ensures { (pieces : Pieces) → result ≡ s.is_setter_of (h.signature signature pieces) }
 {
     match signature {
         Signature::Function { .. } => false,
@@ -32,8 +33,8 @@ fn is_setter_of(signature: &Signature) -> bool
     }
 }
 
-fn is_getter_of(signature: &Signature) -> bool
-    ensures { result ≡ s.is_getter_of signature.now }
+fn is_getter_of(signature: Signature) -> bool
+    ensures { (pieces : Pieces) → result ≡ s.is_getter_of (h.signature signature pieces) }
 {
     match signature {
         Signature::Function { .. } => false,
@@ -43,280 +44,177 @@ fn is_getter_of(signature: &Signature) -> bool
 
 /// Behind `function`: an expression may have no name.
 pub fn function_name(
-    alloc: Global,
     stack: &Stack<Frame>,
+    pieces: &mut Stack<Piece>,
     at: u32,
     role: Role,
-    kind: &TokenKind,
-    place: u32,
-    word: Word,
+    token: &Token,
 ) -> Result<Control, AllocError>
-    ensures { IfOk result (λ c. Shows (s.function_name stack.now at role kind.now place word) c stack.now) }
+    ensures { IfOk result (λ c. Shows (s.function_name (h.frames stack.now pieces.old) at role token.now.kind token.now.at (the_word token.now)) c stack.now pieces.new) }
 {
-    match kind {
-        TokenKind::Name(text) => Ok(Control::Member(MemberDue::Parameters {
-            signature: Signature::Function {
-                at,
-                name: Some(identifier(alloc, place, text)?),
-                role,
-            },
-        })),
+    let signature = Signature::Function { at, role };
+    match &token.kind {
+        TokenKind::Name(text) => {
+            pieces.name_at(token.at, text)?;
+            Ok(Control::Member(MemberDue::Parameters(signature)))
+        }
         _ => {
-            if role == Role::Statement || word != Word::LeftParen {
+            if role == Role::Statement || word_of_kind(&token.kind) != Word::LeftParen {
                 return Ok(Control::Fail);
             }
-            Ok(Control::Member(MemberDue::Parameter {
-                signature: Signature::Function {
-                    at,
-                    name: None,
-                    role,
-                },
-                parameters: TreeList::new(alloc),
-            }))
+            pieces.nothing()?;
+            pieces.no_names()?;
+            Ok(Control::Member(MemberDue::Parameter(signature)))
         }
     }
 }
 
 /// The `(` of the parameters.
 pub fn parameters_open(
-    alloc: Global,
     stack: &Stack<Frame>,
+    pieces: &mut Stack<Piece>,
     signature: Signature,
     word: Word,
-) -> Control
-    ensures { Shows (s.open_paren (member_part (md.Parameter signature []) stack.now) word) result stack.now }
+) -> Result<Control, AllocError>
+    ensures { IfOk result (λ c. Shows (s.open_paren (member_part (md.Parameter (h.signature signature pieces.old) []) (h.frames stack.now (h.under_signature signature pieces.old))) word) c stack.now pieces.new) }
 {
     match word {
-        Word::LeftParen => Control::Member(MemberDue::Parameter {
-            signature,
-            parameters: TreeList::new(alloc),
-        }),
-        _ => {
-            signature.lose();
-            Control::Fail
+        Word::LeftParen => {
+            pieces.no_names()?;
+            Ok(Control::Member(MemberDue::Parameter(signature)))
         }
+        _ => Ok(Control::Fail),
     }
 }
 
 fn parameter_end(
     stack: &Stack<Frame>,
+    pieces: &Stack<Piece>,
     signature: Signature,
-    parameters: TreeList<Identifier>,
     word: Word,
 ) -> Control
-    ensures { Shows (s.parameter_end stack.now signature parameters word) result stack.now }
+    ensures { Shows (s.parameter_end (h.frames stack.now (h.under_signature signature (rest pieces.now))) (h.signature signature (rest pieces.now)) (names_in (first pieces.now)) word) result stack.now pieces.now }
 {
-    if word != Word::RightParen || is_setter_of(&signature) {
-        signature.lose();
-        parameters.lose();
+    if word != Word::RightParen || is_setter_of(signature) {
         return Control::Fail;
     }
-    Control::Member(MemberDue::Body {
-        signature,
-        parameters,
-    })
-}
-
-// A list of names, and one more behind it.
-fn with_parameter(
-    alloc: Global,
-    parameters: TreeList<Identifier>,
-    place: u32,
-    text: &Units,
-) -> Result<TreeList<Identifier>, AllocError>
-    ensures { IfOk result (λ made. made ≡ parameters ++ s.ident place text.now ∷ []) }
-{
-    let mut parameters = parameters;
-    parameters.push(identifier(alloc, place, text)?)?;
-    Ok(parameters)
+    Control::Member(MemberDue::Body(signature))
 }
 
 fn named_parameter(
-    alloc: Global,
     stack: &Stack<Frame>,
+    pieces: &mut Stack<Piece>,
     signature: Signature,
-    parameters: TreeList<Identifier>,
     place: u32,
     text: &Units,
 ) -> Result<Control, AllocError>
-    ensures { IfOk result (λ c. Shows (s.parameter stack.now signature parameters (k.Name text.now) place w.Name) c stack.now) }
+    ensures { IfOk result (λ c. Shows (s.parameter (h.frames stack.now (h.under_signature signature (rest pieces.old))) (h.signature signature (rest pieces.old)) (names_in (first pieces.old)) (k.Name text.now) place w.Name) c stack.now pieces.new) }
 {
-    if is_getter_of(&signature) {
-        signature.lose();
-        parameters.lose();
+    if is_getter_of(signature) {
         return Ok(Control::Fail);
     }
-    match with_parameter(alloc, parameters, place, text) {
-        Ok(parameters) => Ok(Control::Member(MemberDue::ParameterNext {
-            signature,
-            parameters,
-        })),
-        Err(error) => {
-            signature.lose();
-            Err(error)
-        }
-    }
+    pieces.and_name(place, text)?;
+    Ok(Control::Member(MemberDue::ParameterNext(signature)))
 }
 
 /// A parameter or `)`.
 pub fn parameter(
-    alloc: Global,
     stack: &Stack<Frame>,
+    pieces: &mut Stack<Piece>,
     signature: Signature,
-    parameters: TreeList<Identifier>,
     token: &Token,
 ) -> Result<Control, AllocError>
-    ensures { IfOk result (λ c. Shows (s.parameter stack.now signature parameters token.now.kind token.now.at (the_word token.now)) c stack.now) }
+    ensures { IfOk result (λ c. Shows (s.parameter (h.frames stack.now (h.under_signature signature (rest pieces.old))) (h.signature signature (rest pieces.old)) (names_in (first pieces.old)) token.now.kind token.now.at (the_word token.now)) c stack.now pieces.new) }
 {
     match &token.kind {
-        TokenKind::Name(text) => named_parameter(
-            alloc, stack, signature, parameters, token.at, text,
-        ),
-        _ => Ok(parameter_end(stack, signature, parameters, word_of_kind(&token.kind))),
+        TokenKind::Name(text) => named_parameter(stack, pieces, signature, token.at, text),
+        _ => Ok(parameter_end(stack, pieces, signature, word_of_kind(&token.kind))),
     }
-}
-
-fn parameter_comma(
-    stack: &Stack<Frame>,
-    signature: Signature,
-    parameters: TreeList<Identifier>,
-) -> Control
-    ensures { Shows (s.parameter_next stack.now signature parameters w.Comma) result stack.now }
-{
-    if is_setter_of(&signature) {
-        signature.lose();
-        parameters.lose();
-        return Control::Fail;
-    }
-    Control::Member(MemberDue::Parameter {
-        signature,
-        parameters,
-    })
 }
 
 /// Behind a parameter.
 pub fn parameter_next(
     stack: &Stack<Frame>,
+    pieces: &Stack<Piece>,
     signature: Signature,
-    parameters: TreeList<Identifier>,
     word: Word,
 ) -> Control
-    ensures { Shows (s.parameter_next stack.now signature parameters word) result stack.now }
+    ensures { Shows (s.parameter_next (h.frames stack.now (h.under_signature signature (rest pieces.now))) (h.signature signature (rest pieces.now)) (names_in (first pieces.now)) word) result stack.now pieces.now }
 {
     match word {
-        Word::RightParen => Control::Member(MemberDue::Body {
-            signature,
-            parameters,
-        }),
-        Word::Comma => parameter_comma(stack, signature, parameters),
-        _ => {
-            signature.lose();
-            parameters.lose();
-            Control::Fail
+        Word::RightParen => Control::Member(MemberDue::Body(signature)),
+        Word::Comma if !is_setter_of(signature) => {
+            Control::Member(MemberDue::Parameter(signature))
         }
+        _ => Control::Fail,
     }
 }
 
 /// The `{` of the body.
 pub fn body_open(
-    alloc: Global,
     stack: &mut Stack<Frame>,
+    pieces: &mut Stack<Piece>,
     signature: Signature,
-    parameters: TreeList<Identifier>,
     word: Word,
 ) -> Result<Control, AllocError>
-    ensures { IfOk result (λ c. Shows (s.open_brace (statement_due (f.Statement (st.List (l.Function signature parameters) none) ∷ stack.old)) word) c stack.new) }
+    ensures { IfOk result (λ c. Shows (s.open_brace (statement_due (f.Statement (st.List (l.Function (h.signature signature (rest pieces.old)) (names_in (first pieces.old))) none) ∷ h.frames stack.old (h.under_signature signature (rest pieces.old)))) word) c stack.new pieces.new) }
 {
     match word {
         Word::LeftBrace => {
-            let role = ListRole::Function {
-                signature,
-                parameters,
-            };
-            let statements = no_statements(alloc);
-            open_form(
-                stack,
-                Frame::Statement(StatementFrame::List { role, statements }),
-                Control::Statement,
-            )
+            pieces.no_statements()?;
+            let role = ListRole::Function(signature);
+            stack.push(Frame::Statement(StatementFrame::List(role)))?;
+            Ok(Control::Statement)
         }
-        _ => {
-            signature.lose();
-            parameters.lose();
-            Ok(Control::Fail)
-        }
+        _ => Ok(Control::Fail),
     }
-}
-
-fn class_open(
-    alloc: Global,
-    stack: &mut Stack<Frame>,
-    at: u32,
-    name: Option<Identifier>,
-    role: Role,
-) -> Result<Control, AllocError>
-    ensures { IfOk result (λ c. Shows (s.class_next stack.old at name role w.LeftBrace) c stack.new) }
-{
-    let start = ClassStart {
-        at,
-        name,
-        role,
-        parent: None,
-    };
-    let members = no_members(alloc);
-    open_form(
-        stack,
-        Frame::Member(MemberFrame::Class { start, members }),
-        Control::Member(MemberDue::Member),
-    )
 }
 
 /// Behind the name of a class, or where it has none.
 pub fn class_next(
-    alloc: Global,
     stack: &mut Stack<Frame>,
-    at: u32,
-    name: Option<Identifier>,
-    role: Role,
+    pieces: &mut Stack<Piece>,
+    start: ClassStart,
     word: Word,
 ) -> Result<Control, AllocError>
-    ensures { IfOk result (λ c. Shows (s.class_next stack.old at name role word) c stack.new) }
+    ensures { IfOk result (λ c. Shows (s.class_next (h.frames stack.old (rest pieces.old)) start.at (given_name (first pieces.old)) start.role word) c stack.new pieces.new) }
 {
     match word {
-        Word::Extends => open_form(
-            stack,
-            Frame::Member(MemberFrame::Parent { at, name, role }),
-            Control::Operand,
-        ),
-        Word::LeftBrace => class_open(alloc, stack, at, name, role),
-        _ => {
-            name.lose();
-            Ok(Control::Fail)
+        Word::Extends => {
+            stack.push(Frame::Member(MemberFrame::Parent(start)))?;
+            Ok(Control::Operand)
         }
+        Word::LeftBrace => {
+            pieces.no_members()?;
+            stack.push(Frame::Member(MemberFrame::Class(start)))?;
+            Ok(Control::Member(MemberDue::Member))
+        }
+        _ => Ok(Control::Fail),
     }
 }
 
 /// Behind `class`: an expression may have no name.
 pub fn class_name(
-    alloc: Global,
     stack: &mut Stack<Frame>,
+    pieces: &mut Stack<Piece>,
     at: u32,
     role: Role,
     token: &Token,
 ) -> Result<Control, AllocError>
-    ensures { IfOk result (λ c. Shows (s.class_name stack.old at role token.now.kind token.now.at (the_word token.now)) c stack.new) }
+    ensures { IfOk result (λ c. Shows (s.class_name (h.frames stack.old pieces.old) at role token.now.kind token.now.at (the_word token.now)) c stack.new pieces.new) }
 {
+    let start = ClassStart { at, role };
     match &token.kind {
-        TokenKind::Name(text) => Ok(Control::Member(MemberDue::ClassNext {
-            at,
-            name: Some(identifier(alloc, token.at, text)?),
-            role,
-        })),
+        TokenKind::Name(text) => {
+            pieces.name_at(token.at, text)?;
+            Ok(Control::Member(MemberDue::ClassNext(start)))
+        }
         _ => {
             if role == Role::Statement {
                 return Ok(Control::Fail);
             }
-            class_next(alloc, stack, at, None, role, word_of_kind(&token.kind))
+            pieces.nothing()?;
+            class_next(stack, pieces, start, word_of_kind(&token.kind))
         }
     }
 }

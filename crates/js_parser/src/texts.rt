@@ -4,7 +4,7 @@ ghost use Rattle.std.specs.Prelude.{◌≡◌, IfOk, slice_get};
 ghost use Rattle.es_model.specs.Readings as r;
 ghost use Rattle.es_model.specs.Tokens.{keywords};
 
-use es_model::{Identifier, TokenKind, keyword_text};
+use es_model::{TokenKind, keyword_text};
 use js_value::Units;
 use parser_forms::copy_of;
 use std::alloc::{AllocError, Global};
@@ -18,16 +18,6 @@ pub fn text_of(alloc: Global, characters: &str) -> Result<Units, AllocError>
         text.push(u16::from(*byte))?;
     }
     Ok(text)
-}
-
-/// A name with a copy of its text, at a place. The one error is want of memory.
-pub fn identifier(alloc: Global, at: u32, text: &Units) -> Result<Identifier, AllocError>
-    ensures { IfOk result (λ name. name ≡ record { at = at; name = text.now }) }
-{
-    Ok(Identifier {
-        at,
-        name: copy_of(alloc, text)?,
-    })
 }
 
 // A token's number is below the number of keywords where it is a keyword's; past the list there is none.

@@ -1,15 +1,1 @@
-pub mod Rows
-pub mod FormRows
-pub mod LevelRows
-pub mod OperandRows
-pub mod MemberRows
-pub mod StatementRows
-pub mod ItemRows
-pub mod ExpressionMisses
-pub mod MemberMisses
-pub mod StatementMisses
-pub mod ItemMisses
-pub mod DepthRows
-pub mod WordRows
-pub mod Laws
 pub mod ListLaws

@@ -1,13 +1,4 @@
-pub mod Words
 pub mod Kept
 pub mod Parts
-pub mod Tables
-pub mod State
-pub mod Ends
-pub mod Begins
-pub mod Settle
-pub mod MemberSteps
-pub mod StatementSteps
-pub mod ItemSteps
-pub mod Machine
-pub mod Cut
+pub mod Asks
+pub mod Pieces

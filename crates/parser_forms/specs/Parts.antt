@@ -16,11 +16,13 @@ use Rattle.parser_forms.specs.declared.parts.Heading.{Heading}
 use Rattle.parser_forms.specs.declared.parts.Heading.TheVariants as h
 use Rattle.parser_forms.specs.declared.parts.Literal.{Literal}
 use Rattle.parser_forms.specs.declared.parts.Literal.TheVariants as literals
-use Rattle.parser_forms.specs.declared.frame.Infix.{Infix}
-use Rattle.parser_forms.specs.declared.frame.Infix.TheVariants as i
-use Rattle.parser_forms.specs.declared.frame.Prefix.{Prefix}
-use Rattle.parser_forms.specs.declared.frame.Prefix.TheVariants as p
-use Rattle.parser_forms.specs.declared.frame.KeyPart.{KeyPart}
+use Rattle.parser_forms.specs.declared.kinds.Infix.{Infix}
+use Rattle.parser_forms.specs.declared.kinds.Infix.TheVariants as i
+use Rattle.parser_forms.specs.declared.kinds.Prefix.{Prefix}
+use Rattle.parser_forms.specs.declared.kinds.Prefix.TheVariants as p
+use Rattle.parser_forms.specs.declared.parts.KeyPart.{KeyPart}
+use Rattle.parser_forms.specs.declared.kinds.Bare.{Bare}
+use Rattle.parser_forms.specs.declared.kinds.Bare.TheVariants as bares
 use Rattle.parser_forms.specs.Kept.{Sorted, flat, around, both, counted, optional}
 
 -- Expressions. `plain` is one of which nothing but its level is asked, `target` one that may be assigned to.
@@ -186,6 +188,14 @@ function_member at fixed kind of function = both (λ k v. t.MemberOf at fixed ki
 
 -- Functions and classes.
 
+-- the kind of the function of a member; `derived` says of a class that it has a parent
+abbrev pub method_kind : MemberKind → Bool → Bool → Bool → FunctionKind
+method_kind m.Getter fixed constructor derived = f.Getter
+method_kind m.Setter fixed constructor derived = f.Setter
+method_kind _ false true true = f.Derived
+method_kind _ false true false = f.Base
+method_kind _ _ _ _ = f.Method
+
 abbrev pub function : ℕ → Option Identifier → FunctionKind → List Identifier → Sorted (t.list t.statement) → Sorted t.function
 function at own kind parameters statements = counted (around (λ list. t.FunctionOf at own kind parameters (t.BodyStatements list)) statements)
 
@@ -198,6 +208,11 @@ abbrev pub class : ℕ → Option Identifier → Option (Sorted t.expression) �
 class at own parent members = counted (both (t.ClassOf at own) (optional parent) members)
 
 -- Statements.
+
+abbrev pub bare_tree : Bare → Tree t.statement
+bare_tree bares.Empty = t.Empty
+bare_tree (bares.Break at mark) = t.Break at mark
+bare_tree (bares.Continue at mark) = t.Continue at mark
 
 abbrev pub bare : Tree t.statement → Sorted t.statement
 bare tree = counted (flat tree)

@@ -1,118 +1,70 @@
-//! What is kept of functions and classes (ECMA-262, 15).
+//! Functions and classes (ECMA-262, 15).
 
-ghost use Rattle.std.specs.Prelude.{◌≡◌, None, IfOk};
+ghost use Rattle.std.specs.Prelude.{◌∷◌, None, ◌≡◌, IfOk};
 ghost use Rattle.es_model.specs.declared.kinds.FunctionKind.TheVariants as kinds;
-ghost use Rattle.es_model.specs.Tree as t;
-ghost use Rattle.parser_forms.specs.Kept.{around, counted as one_more};
+ghost use Rattle.parser_forms.specs.Kept.{and_then};
 ghost use Rattle.parser_forms.specs.Parts as p;
+ghost use Rattle.parser_forms.specs.Pieces.{first, fourth, given_name, items_in, members_in, names_in, parent_in, part_in, rest, second, statements_in, third, under_parent};
+ghost use Rattle.parser_forms.specs.declared.pieces.Piece.TheVariants as v;
 
-use crate::keeping::{both, box_beside, counted, lose, option_beside, optional};
-use crate::operands::arrow_expression;
-use crate::parts::{Kept, Part};
-use crate::trees::{ClassTree, FunctionTree, Members, Statements};
-use es_model::{Class, Expression, Function, FunctionBody, FunctionKind, Identifier, TreeList};
-use std::alloc::{AllocError, Global};
+use crate::pieces::Piece;
+use crate::stack::Stack;
+use std::alloc::AllocError;
 
-/// A function with a list of statements. Takes no memory.
-pub fn function(
-    at: u32,
-    own: Option<Identifier>,
-    kind: FunctionKind,
-    parameters: TreeList<Identifier>,
-    statements: Kept<Statements>,
-) -> Kept<FunctionTree>
-    ensures { result ≡ p.function at own kind parameters statements }
-{
-    let Kept { tree, nesting } = counted(statements);
-    let tree = match tree {
-        Some(statements) => Some(FunctionTree {
-            tree: Function {
-                at,
-                name: own,
-                kind,
-                parameters,
-                body: FunctionBody::Statements(statements.trees),
-            },
-        }),
-        None => {
-            lose(own);
-            lose(parameters);
-            None
-        }
-    };
-    Kept { tree, nesting }
-}
+impl Stack<Piece> {
+    /// A function as an expression.
+    pub fn function_expression(&mut self, at: u32) -> Result<(), AllocError>
+        ensures { IfOk result (λ done. self.new ≡ v.Part (p.function_expression at (p.function at (given_name (third self.old)) kinds.Plain (names_in (second self.old)) (statements_in (first self.old)))) ∷ rest (rest (rest self.old))) }
+    {
+        Err(AllocError)
+    }
 
-fn arrow_function(
-    alloc: Global,
-    at: u32,
-    parameters: TreeList<Identifier>,
-    value: Kept<Expression>,
-) -> Result<Kept<FunctionTree>, AllocError>
-    ensures { IfOk result (λ made. made ≡ one_more (around (λ tree. t.FunctionOf at None kinds.Arrow parameters (t.BodyExpression tree)) value)) }
-{
-    let Kept { tree, nesting } = counted(value);
-    let tree = match tree {
-        Some(value) => {
-            let (value, parameters) = box_beside(alloc, value, parameters)?;
-            Some(FunctionTree {
-                tree: Function {
-                    at,
-                    name: None,
-                    kind: FunctionKind::Arrow,
-                    parameters,
-                    body: FunctionBody::Expression(value),
-                },
-            })
-        }
-        None => {
-            lose(parameters);
-            None
-        }
-    };
-    Ok(Kept { tree, nesting })
-}
+    /// A function as a statement.
+    pub fn function_statement(&mut self, at: u32) -> Result<(), AllocError>
+        ensures { IfOk result (λ done. self.new ≡ v.Statement (p.function_statement (p.function at (given_name (third self.old)) kinds.Plain (names_in (second self.old)) (statements_in (first self.old)))) ∷ rest (rest (rest self.old))) }
+    {
+        Err(AllocError)
+    }
 
-/// An arrow whose body is an expression.
-pub fn arrow(
-    alloc: Global,
-    at: u32,
-    parameters: TreeList<Identifier>,
-    value: Part,
-) -> Result<Part, AllocError>
-    ensures { IfOk result (λ made. made ≡ p.arrow at parameters value) }
-{
-    let function = arrow_function(alloc, at, parameters, value.into_kept())?;
-    arrow_expression(alloc, at, function)
-}
+    /// The list of items, and behind it `export default`, at a place, before a function.
+    pub fn and_default_function(&mut self, place: u32, at: u32) -> Result<(), AllocError>
+        ensures { IfOk result (λ done. self.new ≡ v.Items (and_then (items_in (fourth self.old)) (p.default_function place (p.function at (given_name (third self.old)) kinds.Plain (names_in (second self.old)) (statements_in (first self.old))))) ∷ rest (rest (rest (rest self.old)))) }
+    {
+        Err(AllocError)
+    }
 
-/// A class.
-pub fn class(
-    alloc: Global,
-    at: u32,
-    own: Option<Identifier>,
-    parent: Option<Kept<Expression>>,
-    members: Kept<Members>,
-) -> Result<Kept<ClassTree>, AllocError>
-    ensures { IfOk result (λ made. made ≡ p.class at own parent members) }
-{
-    let Kept { tree, nesting } = counted(both(optional(parent), members));
-    let tree = match tree {
-        Some((parent, members)) => {
-            let (parent, (name, members)) = option_beside(alloc, parent, (own, members))?;
-            Some(ClassTree {
-                tree: Class {
-                    at,
-                    name,
-                    parent,
-                    members: members.trees,
-                },
-            })
-        }
-        None => {
-            lose(own);
-            None
-        }
-    };
-    Ok(Kept { tree, nesting })
+    /// An arrow whose body is an expression.
+    pub fn arrow(&mut self, at: u32) -> Result<(), AllocError>
+        ensures { IfOk result (λ done. self.new ≡ v.Part (p.arrow at (names_in (second self.old)) (part_in (first self.old))) ∷ rest (rest self.old)) }
+    {
+        Err(AllocError)
+    }
+
+    /// An arrow whose body is a list of statements.
+    pub fn block_arrow(&mut self, at: u32) -> Result<(), AllocError>
+        ensures { IfOk result (λ done. self.new ≡ v.Part (p.arrow_expression at (p.function at None kinds.Arrow (names_in (second self.old)) (statements_in (first self.old)))) ∷ rest (rest self.old)) }
+    {
+        Err(AllocError)
+    }
+
+    /// A class as an expression; a derived one has its parent before its members.
+    pub fn class_expression(&mut self, at: u32, derived: bool) -> Result<(), AllocError>
+        ensures { IfOk result (λ done. self.new ≡ v.Part (p.class_expression at (p.class at (given_name (first (under_parent derived (rest self.old)))) (parent_in derived (rest self.old)) (members_in (first self.old)))) ∷ rest (under_parent derived (rest self.old))) }
+    {
+        Err(AllocError)
+    }
+
+    /// A class as a statement.
+    pub fn class_statement(&mut self, at: u32, derived: bool) -> Result<(), AllocError>
+        ensures { IfOk result (λ done. self.new ≡ v.Statement (p.class_statement (p.class at (given_name (first (under_parent derived (rest self.old)))) (parent_in derived (rest self.old)) (members_in (first self.old)))) ∷ rest (under_parent derived (rest self.old))) }
+    {
+        Err(AllocError)
+    }
+
+    /// The list of items, and behind it `export default`, at a place, before a class.
+    pub fn and_default_class(&mut self, place: u32, at: u32, derived: bool) -> Result<(), AllocError>
+        ensures { IfOk result (λ done. self.new ≡ v.Items (and_then (items_in (second (under_parent derived (rest self.old)))) (p.default_class place (p.class at (given_name (first (under_parent derived (rest self.old)))) (parent_in derived (rest self.old)) (members_in (first self.old))))) ∷ rest (rest (under_parent derived (rest self.old)))) }
+    {
+        Err(AllocError)
+    }
 }

@@ -1,99 +1,57 @@
-//! What is kept of a module's items, form by form (ECMA-262, 16.2).
+//! The items of a module, form by form (ECMA-262, 16.2).
 
-ghost use Rattle.std.specs.Prelude.{◌≡◌};
-ghost use Rattle.es_model.specs.ModuleView.{item_of};
+ghost use Rattle.std.specs.Prelude.{◌∷◌, ◌≡◌, IfOk};
+ghost use Rattle.es_model.specs.Tree as t;
+ghost use Rattle.parser_forms.specs.Kept.{and_then};
 ghost use Rattle.parser_forms.specs.Parts as p;
+ghost use Rattle.parser_forms.specs.Pieces.{first, items_in, pairs_in, part_in, rest, second, statement_in, text_in, third};
+ghost use Rattle.parser_forms.specs.declared.pieces.Piece.TheVariants as v;
 
-use crate::parts::Kept;
-use crate::trees::{ClassTree, FunctionTree, ItemTree};
-use es_model::{Default, Expression, Item, Semi, Statement};
+use crate::pieces::Piece;
+use crate::stack::Stack;
+use es_model::{Semi};
+use std::alloc::AllocError;
 
-/// A statement as an item. Takes no memory.
-pub fn plain_item(statement: Kept<Statement>) -> Kept<ItemTree>
-    ensures { result ≡ p.plain_item statement }
-{
-    let Kept { tree, nesting } = statement;
-    let tree = match tree {
-        Some(statement) => {
-            let tree = Item::Plain { statement };
-            Some(ItemTree { tree })
-        }
-        None => None,
-    };
-    Kept { tree, nesting }
-}
+impl Stack<Piece> {
+    /// The list of items, and the statement before behind it.
+    pub fn and_plain_item(&mut self) -> Result<(), AllocError>
+        ensures { IfOk result (λ done. self.new ≡ v.Items (and_then (items_in (second self.old)) (p.plain_item (statement_in (first self.old)))) ∷ rest (rest self.old)) }
+    {
+        Err(AllocError)
+    }
 
-/// `export` before a declaration. Takes no memory.
-pub fn exported_item(statement: Kept<Statement>) -> Kept<ItemTree>
-    ensures { result ≡ p.exported_item statement }
-{
-    let Kept { tree, nesting } = statement;
-    let tree = match tree {
-        Some(statement) => {
-            let tree = Item::ExportDeclaration { statement };
-            Some(ItemTree { tree })
-        }
-        None => None,
-    };
-    Kept { tree, nesting }
-}
+    /// The list of items, and behind it `export` before a declaration.
+    pub fn and_exported_item(&mut self) -> Result<(), AllocError>
+        ensures { IfOk result (λ done. self.new ≡ v.Items (and_then (items_in (second self.old)) (p.exported_item (statement_in (first self.old)))) ∷ rest (rest self.old)) }
+    {
+        Err(AllocError)
+    }
 
-/// `export default` before a function. Takes no memory.
-pub fn default_function(at: u32, of: Kept<FunctionTree>) -> Kept<ItemTree>
-    ensures { result ≡ p.default_function at of }
-{
-    let Kept { tree, nesting } = of;
-    let tree = match tree {
-        Some(of) => {
-            let value = Default::Function(of.tree);
-            let semi = Semi::Missing;
-            let tree = Item::ExportDefault { at, value, semi };
-            Some(ItemTree { tree })
-        }
-        None => None,
-    };
-    Kept { tree, nesting }
-}
+    /// The list of items, and behind it `export default` before a value.
+    pub fn and_default_value(&mut self, at: u32, semi: Semi) -> Result<(), AllocError>
+        ensures { IfOk result (λ done. self.new ≡ v.Items (and_then (items_in (second self.old)) (p.default_value at (part_in (first self.old)).of semi)) ∷ rest (rest self.old)) }
+    {
+        Err(AllocError)
+    }
 
-/// `export default` before a class. Takes no memory.
-pub fn default_class(at: u32, of: Kept<ClassTree>) -> Kept<ItemTree>
-    ensures { result ≡ p.default_class at of }
-{
-    let Kept { tree, nesting } = of;
-    let tree = match tree {
-        Some(of) => {
-            let value = Default::Class(of.tree);
-            let semi = Semi::Missing;
-            let tree = Item::ExportDefault { at, value, semi };
-            Some(ItemTree { tree })
-        }
-        None => None,
-    };
-    Kept { tree, nesting }
-}
+    /// The list of items, and behind it an import of pairs from a module.
+    pub fn and_import(&mut self, semi: Semi) -> Result<(), AllocError>
+        ensures { IfOk result (λ done. self.new ≡ v.Items (and_then (items_in (third self.old)) (p.bare_item (t.Import (text_in (first self.old)) (pairs_in (second self.old)) semi))) ∷ rest (rest (rest self.old))) }
+    {
+        Err(AllocError)
+    }
 
-/// `export default` before a value. Takes no memory.
-pub fn default_value(at: u32, of: Kept<Expression>, semi: Semi) -> Kept<ItemTree>
-    ensures { result ≡ p.default_value at of semi }
-{
-    let Kept { tree, nesting } = of;
-    let tree = match tree {
-        Some(of) => {
-            let value = Default::Value(of);
-            let tree = Item::ExportDefault { at, value, semi };
-            Some(ItemTree { tree })
-        }
-        None => None,
-    };
-    Kept { tree, nesting }
-}
+    /// The list of items, and behind it an export of pairs from a module.
+    pub fn and_export_from(&mut self, semi: Semi) -> Result<(), AllocError>
+        ensures { IfOk result (λ done. self.new ≡ v.Items (and_then (items_in (third self.old)) (p.bare_item (t.ExportFrom (text_in (first self.old)) (pairs_in (second self.old)) semi))) ∷ rest (rest (rest self.old))) }
+    {
+        Err(AllocError)
+    }
 
-/// An item with nothing in it. Takes no memory.
-pub fn bare_item(tree: Item) -> Kept<ItemTree>
-    ensures { result ≡ p.bare_item (item_of tree) }
-{
-    Kept {
-        tree: Some(ItemTree { tree }),
-        nesting: 0,
+    /// The list of items, and behind it an export of pairs.
+    pub fn and_export_names(&mut self, semi: Semi) -> Result<(), AllocError>
+        ensures { IfOk result (λ done. self.new ≡ v.Items (and_then (items_in (second self.old)) (p.bare_item (t.ExportNames (pairs_in (first self.old)) semi))) ∷ rest (rest self.old)) }
+    {
+        Err(AllocError)
     }
 }

@@ -1,135 +1,93 @@
-//! What is kept of keys and members (ECMA-262, 13.2.5 and 15.7).
+//! Keys and members (ECMA-262, 13.2.5 and 15.7).
 
-ghost use Rattle.std.specs.Prelude.{◌≡◌, IfOk};
-ghost use Rattle.es_model.specs.Levels as levels;
-ghost use Rattle.es_model.specs.View.{key_of};
+ghost use Rattle.std.specs.Prelude.{◌∷◌, None, false, true, ◌≡◌, IfOk};
+ghost use Rattle.es_model.specs.Tree as t;
+ghost use Rattle.parser_forms.specs.Kept.{none, and_then};
 ghost use Rattle.parser_forms.specs.Parts as p;
+ghost use Rattle.parser_forms.specs.Pieces.{first, fourth, key_in, members_in, name_in, names_in, part_in, rest, second, statements_in, third};
+ghost use Rattle.parser_forms.specs.declared.pieces.Piece.TheVariants as v;
 
-use crate::frame::KeyPart;
-use crate::keeping::{both, box_beside};
-use crate::parts::{Kept, Part};
-use crate::texts::is_text;
-use crate::trees::{FunctionTree, KeyTree, MemberTree};
-use es_model::{Identifier, Key, Member, MemberKind};
-use std::alloc::{AllocError, Global};
+use crate::pieces::Piece;
+use crate::stack::Stack;
+use es_model::{MemberKind};
+use js_value::Units;
+use std::alloc::AllocError;
 
-fn is_constructor_key(key: &Key) -> bool
-    ensures { result ≡ levels.is_constructor_key (key_of key.now) }
-{
-    match key {
-        Key::Word(text) => is_text(text.as_slice(), b"constructor"),
-        Key::String(text) => is_text(text.as_slice(), b"constructor"),
-        Key::Number(_) => false,
-        Key::Computed(_) => false,
+impl Stack<Piece> {
+    /// No members.
+    pub fn no_members(&mut self) -> Result<(), AllocError>
+        ensures { IfOk result (λ done. self.new ≡ v.Members none ∷ self.old) }
+    {
+        Err(AllocError)
     }
-}
 
-/// A key that is written. Takes no memory.
-pub fn key(tree: KeyTree) -> KeyPart
-    ensures { result ≡ p.key tree }
-{
-    let is_constructor = is_constructor_key(&tree.tree);
-    let tree = Some(tree);
-    KeyPart {
-        of: Kept { tree, nesting: 0 },
-        is_constructor,
+    /// A key that is a name or a keyword.
+    pub fn word_key(&mut self, name: Units) -> Result<(), AllocError>
+        ensures { IfOk result (λ done. self.new ≡ v.Key (p.key (t.KeyWord name)) ∷ self.old) }
+    {
+        Err(AllocError)
     }
-}
 
-/// A computed key.
-pub fn computed_key(alloc: Global, part: Part) -> Result<KeyPart, AllocError>
-    ensures { IfOk result (λ made. made ≡ p.computed_key part) }
-{
-    let Kept { tree, nesting } = part.into_kept();
-    let tree = match tree {
-        Some(of) => Some(KeyTree {
-            tree: Key::Computed(Box::new(alloc, of)?),
-        }),
-        None => None,
-    };
-    Ok(KeyPart {
-        of: Kept { tree, nesting },
-        is_constructor: false,
-    })
-}
-
-/// `key: value`.
-pub fn value_member(
-    alloc: Global,
-    at: u32,
-    of: KeyPart,
-    value: Part,
-) -> Result<Kept<MemberTree>, AllocError>
-    ensures { IfOk result (λ made. made ≡ p.value_member at of value) }
-{
-    let Kept { tree, nesting } = both(of.of, value.into_kept());
-    let tree = match tree {
-        Some((key, value)) => {
-            let (value, key) = box_beside(alloc, value, key)?;
-            Some(MemberTree {
-                tree: Member {
-                    at,
-                    fixed: false,
-                    kind: MemberKind::Value,
-                    key: key.tree,
-                    value: Some(value),
-                    function: None,
-                },
-            })
-        }
-        None => None,
-    };
-    Ok(Kept { tree, nesting })
-}
-
-/// A name alone. Takes no memory.
-pub fn short_member(one: Identifier) -> Kept<MemberTree>
-    ensures { result ≡ p.short_member one }
-{
-    let Identifier { at, name } = one;
-    let tree = MemberTree {
-        tree: Member {
-            at,
-            fixed: false,
-            kind: MemberKind::Short,
-            key: Key::Word(name),
-            value: None,
-            function: None,
-        },
-    };
-    Kept {
-        tree: Some(tree),
-        nesting: 0,
+    /// A key that is a string.
+    pub fn string_key(&mut self, text: &Units) -> Result<(), AllocError>
+        ensures { IfOk result (λ done. self.new ≡ v.Key (p.key (t.KeyString text.now)) ∷ self.old) }
+    {
+        Err(AllocError)
     }
-}
 
-/// A method or an accessor.
-pub fn function_member(
-    alloc: Global,
-    at: u32,
-    fixed: bool,
-    kind: MemberKind,
-    of: KeyPart,
-    function: Kept<FunctionTree>,
-) -> Result<Kept<MemberTree>, AllocError>
-    ensures { IfOk result (λ made. made ≡ p.function_member at fixed kind of function) }
-{
-    let Kept { tree, nesting } = both(of.of, function);
-    let tree = match tree {
-        Some((key, function)) => {
-            let (function, key) = box_beside(alloc, function.tree, key)?;
-            Some(MemberTree {
-                tree: Member {
-                    at,
-                    fixed,
-                    kind,
-                    key: key.tree,
-                    value: None,
-                    function: Some(function),
-                },
-            })
-        }
-        None => None,
-    };
-    Ok(Kept { tree, nesting })
+    /// A key that is a number.
+    pub fn number_key(&mut self, number: i64) -> Result<(), AllocError>
+        ensures { IfOk result (λ done. self.new ≡ v.Key (p.key (t.KeyNumber number)) ∷ self.old) }
+    {
+        Err(AllocError)
+    }
+
+    /// A key that is a name, and the name, which may stand alone.
+    pub fn name_key(&mut self, at: u32, text: &Units) -> Result<(), AllocError>
+        ensures { IfOk result (λ done. self.new ≡ v.Name (record { at = at; name = text.now }) ∷ v.Key (p.key (t.KeyWord text.now)) ∷ self.old) }
+    {
+        Err(AllocError)
+    }
+
+    /// The name before as a key, and the name on top, which may stand alone.
+    pub fn as_name_key(&mut self) -> Result<(), AllocError>
+        ensures { IfOk result (λ done. self.new ≡ v.Name (name_in (first self.old)) ∷ v.Key (p.key (t.KeyWord (name_in (first self.old)).name)) ∷ rest self.old) }
+    {
+        Err(AllocError)
+    }
+
+    /// A computed key.
+    pub fn computed_key(&mut self) -> Result<(), AllocError>
+        ensures { IfOk result (λ done. self.new ≡ v.Key (p.computed_key (part_in (first self.old))) ∷ rest self.old) }
+    {
+        Err(AllocError)
+    }
+
+    /// The list of members, and `key: value` behind it.
+    pub fn and_value_member(&mut self, at: u32) -> Result<(), AllocError>
+        ensures { IfOk result (λ done. self.new ≡ v.Members (and_then (members_in (third self.old)) (p.value_member at (key_in (second self.old)) (part_in (first self.old)))) ∷ rest (rest (rest self.old))) }
+    {
+        Err(AllocError)
+    }
+
+    /// The list of members, and a name alone behind it, whose key is dropped.
+    pub fn and_short_member(&mut self) -> Result<(), AllocError>
+        ensures { IfOk result (λ done. self.new ≡ v.Members (and_then (members_in (third self.old)) (p.short_member (name_in (first self.old)))) ∷ rest (rest (rest self.old))) }
+    {
+        Err(AllocError)
+    }
+
+    /// The list of members of an object literal, and a method or an accessor behind it.
+    pub fn and_object_method(&mut self, at: u32, fixed: bool, kind: MemberKind) -> Result<(), AllocError>
+        ensures { IfOk result (λ done. self.new ≡ v.Members (and_then (members_in (fourth self.old)) (p.function_member at fixed kind (key_in (third self.old)) (p.function at None (p.method_kind kind true false false) (names_in (second self.old)) (statements_in (first self.old))))) ∷ rest (rest (rest (rest self.old)))) }
+    {
+        Err(AllocError)
+    }
+
+    /// The list of members of a class, which may be a derived one, and a method or an accessor behind it.
+    pub fn and_class_method(&mut self, at: u32, fixed: bool, kind: MemberKind, derived: bool) -> Result<(), AllocError>
+        ensures { IfOk result (λ done. self.new ≡ v.Members (and_then (members_in (fourth self.old)) (p.function_member at fixed kind (key_in (third self.old)) (p.function at None (p.method_kind kind fixed (key_in (third self.old)).is_constructor derived) (names_in (second self.old)) (statements_in (first self.old))))) ∷ rest (rest (rest (rest self.old)))) }
+    {
+        Err(AllocError)
+    }
 }

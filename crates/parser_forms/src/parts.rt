@@ -1,6 +1,7 @@
 ghost use Rattle.std.specs.Prelude.{◌≡◌};
 
 use crate::keeping::lose;
+use crate::trees::KeyTree;
 use es_model::{Expression, Identifier, TreeList};
 use js_value::Units;
 
@@ -35,6 +36,13 @@ pub struct Part {
     pub is_bare_new: bool,
     pub has_call: bool,
     pub heading: Heading,
+}
+
+/// The key of a member. `is_constructor` says that it is written, and is `constructor`.
+#[derive(Drop)]
+pub struct KeyPart {
+    pub of: Kept<KeyTree>,
+    pub is_constructor: bool,
 }
 
 /// An expression that is one token, and no name: a literal or `this` (ECMA-262, 13.2).

@@ -1,19 +1,17 @@
-ghost use Rattle.std.specs.Prelude.{◌≡◌, List, [], ◌∷◌, MatchOption, IfOk};
-ghost use Rattle.std.specs.Result.{OnOk, OnErr};
-ghost use Rattle.parser_forms.specs.Kept.{none};
-ghost use Rattle.parser_forms.specs.declared.frame.Frame.TheVariants as f;
-ghost use Rattle.parser_forms.specs.declared.frame.ItemFrame.TheVariants as n;
+//! The stacks of the parser: the open forms, and what was read.
 
-use crate::frame::{Frame, ItemFrame};
-use crate::lists::no_items;
+ghost use Rattle.std.specs.Prelude.{◌≡◌, List, [], ◌∷◌, MatchOption};
+ghost use Rattle.std.specs.Result.{OnOk, OnErr};
+
 use std::alloc::{AllocError, Global};
 use std::marker::Model;
 
-/// The open forms. Contracts see a list whose first element is the one on top, which is the innermost.
+/// A stack. Contracts see a list whose first element is the one on top.
 ///
 /// It keeps its allocator, and takes the memory of its items, and of up to as many again for growth.
 #[derive(Drop)]
 pub struct Stack<T> {
+    alloc: Global,
     items: Vec<T>,
 }
 
@@ -34,8 +32,14 @@ impl<T> Stack<T> {
         ensures { result ≡ [] }
     {
         Stack {
+            alloc,
             items: Vec::new(alloc),
         }
+    }
+
+    /// Its allocator.
+    pub fn alloc(&self) -> Global {
+        self.alloc
     }
 
     /// The one on top; None where there is none.
@@ -62,26 +66,5 @@ impl<T: Drop> Stack<T> {
     {
         self.items.push(item)?;
         Ok(())
-    }
-}
-
-impl Stack<Frame> {
-    /// The one open form of a module of which nothing was read. The one error is want of memory.
-    pub fn of_module(alloc: Global) -> Result<Stack<Frame>, AllocError>
-        ensures { IfOk result (λ made. made ≡ f.Item (n.Module none) ∷ []) }
-    {
-        let mut stack = Stack::new(alloc);
-        let items = no_items(alloc);
-        stack.open(Frame::Item(ItemFrame::Module { items }))?;
-        Ok(stack)
-    }
-
-    /// Puts a form on top, which is open from then on. The one error is want of memory: it leaves the
-    /// stack as it was, and the form is dropped.
-    pub fn open(&mut self, frame: Frame) -> Result<(), AllocError>
-        ensures ok { OnOk result (self.new ≡ frame ∷ self.old) }
-        ensures err { OnErr result (self.new ≡ self.old) }
-    {
-        self.push(frame)
     }
 }

@@ -1,5 +1,5 @@
 use Rattle.std.proofs.Common.{ap, ◌∙◌}
-use Rattle.parser_forms.specs.Machine.{answer}
+use Rattle.js_parser.specs.Machine.{answer}
 use Rattle.js_parser.specs.Parsed.{result_of}
 use Rattle.js_parser.proofs.Promised.{promised}
 use Rattle.js_parser.proofs.reading.module.Goals as goal
