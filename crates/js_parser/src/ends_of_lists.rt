@@ -2,6 +2,7 @@
 //! The one error of a call is want of memory.
 
 ghost use Rattle.std.specs.Prelude.{◌≡◌, ◌∷◌, IfOk};
+ghost use Rattle.parser_forms.specs.Pieces.{first, rest, statements_in};
 ghost use Rattle.js_parser.specs.Ends as e;
 ghost use Rattle.js_parser.specs.Held as h;
 ghost use Rattle.js_parser.specs.Shows.{Shows};
@@ -50,23 +51,6 @@ pub fn case_start(
     }
 }
 
-// The last two pieces are the test of a case and the statements that stand in it.
-fn next_case_behind_case(
-    stack: &mut Stack<Frame>,
-    pieces: &mut Stack<Piece>,
-    word: Word,
-) -> Result<Control, AllocError>
-    ensures { IfOk result (λ c. Shows (e.case_start (e.with_case (Some (part_in (second pieces.old)).of) (statements_in (first pieces.old)) (h.frames stack.old (rest (rest pieces.old)))) word) c stack.new pieces.new) }
-{
-    match stack.top() {
-        Some(Frame::Statement(StatementFrame::Switch { .. })) => {
-            pieces.and_case()?;
-            case_start(stack, pieces, word)
-        }
-        _ => Ok(Control::Fail),
-    }
-}
-
 /// `case` and `default` behind the statements of a case.
 pub fn next_case(
     stack: &mut Stack<Frame>,
@@ -75,30 +59,38 @@ pub fn next_case(
 ) -> Result<Control, AllocError>
     ensures { IfOk result (λ c. Shows (e.next_case (h.frames stack.old pieces.old) word) c stack.new pieces.new) }
 {
-    match stack.pop() {
-        Some(Frame::Statement(StatementFrame::List(ListRole::Case))) => {
-            pieces.and_case()?;
-            case_start(stack, pieces, word)
-        }
-        Some(Frame::Statement(StatementFrame::List(ListRole::Default))) => {
-            pieces.and_default_case()?;
-            case_behind_default(stack, word)
-        }
-        _ => Ok(Control::Fail),
-    }
-}
-
-/// A `}` where a statement may stand.
-pub fn braces_end(
-    stack: &mut Stack<Frame>,
-    pieces: &mut Stack<Piece>,
-) -> Result<Control, AllocError>
-    ensures { IfOk result (λ c. Shows (e.braces_end (h.frames stack.old pieces.old)) c stack.new pieces.new) }
-{
     let role = match stack.pop() {
         Some(Frame::Statement(StatementFrame::List(role))) => role,
         _ => return Ok(Control::Fail),
     };
+    let has_default = match stack.pop() {
+        Some(Frame::Statement(StatementFrame::Switch { has_default })) => has_default,
+        _ => return Ok(Control::Fail),
+    };
+    let is_default = match role {
+        ListRole::Case => {
+            pieces.and_case()?;
+            false
+        }
+        ListRole::Default => {
+            pieces.and_default_case()?;
+            true
+        }
+        _ => return Ok(Control::Fail),
+    };
+    let has_default = has_default || is_default;
+    stack.push(Frame::Statement(StatementFrame::Switch { has_default }))?;
+    case_start(stack, pieces, word)
+}
+
+// The end of a list of statements, which is the last piece.
+fn list_end(
+    stack: &mut Stack<Frame>,
+    pieces: &mut Stack<Piece>,
+    role: ListRole,
+) -> Result<Control, AllocError>
+    ensures { IfOk result (λ c. Shows (e.list_end (h.list_role role (rest pieces.old)) (h.frames stack.old (h.under_list_role role (rest pieces.old))) (statements_in (first pieces.old))) c stack.new pieces.new) }
+{
     match role {
         ListRole::Block => {
             pieces.block()?;
@@ -115,14 +107,33 @@ pub fn braces_end(
             pieces.block_arrow(at)?;
             Ok(Control::Read)
         }
-        ListRole::Case => {
-            pieces.and_case()?;
-            switch_end(stack, pieces)
-        }
-        ListRole::Default => {
-            pieces.and_default_case()?;
-            switch_end(stack, pieces)
-        }
+        ListRole::Case => match stack.top() {
+            Some(Frame::Statement(StatementFrame::Switch { .. })) => {
+                pieces.and_case()?;
+                switch_end(stack, pieces)
+            }
+            _ => Ok(Control::Fail),
+        },
+        ListRole::Default => match stack.top() {
+            Some(Frame::Statement(StatementFrame::Switch { .. })) => {
+                pieces.and_default_case()?;
+                switch_end(stack, pieces)
+            }
+            _ => Ok(Control::Fail),
+        },
+    }
+}
+
+/// A `}` where a statement may stand.
+pub fn braces_end(
+    stack: &mut Stack<Frame>,
+    pieces: &mut Stack<Piece>,
+) -> Result<Control, AllocError>
+    ensures { IfOk result (λ c. Shows (e.braces_end (h.frames stack.old pieces.old)) c stack.new pieces.new) }
+{
+    match stack.pop() {
+        Some(Frame::Statement(StatementFrame::List(role))) => list_end(stack, pieces, role),
+        _ => Ok(Control::Fail),
     }
 }
 
