@@ -7,7 +7,7 @@ ghost use Rattle.js_parser.specs.Begins as b;
 ghost use Rattle.js_parser.specs.Frame as f;
 ghost use Rattle.js_parser.specs.Held as h;
 ghost use Rattle.js_parser.specs.Shows.{Shows};
-ghost use Rattle.js_parser.specs.State.{fail, item_part};
+ghost use Rattle.js_parser.specs.State.{fail};
 ghost use Rattle.js_parser.specs.StatementFrame as s;
 ghost use Rattle.js_parser.specs.declared.frame.Control.TheVariants as due;
 ghost use Rattle.js_parser.specs.declared.frame.StatementDue.TheVariants as sd;

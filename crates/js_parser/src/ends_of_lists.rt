@@ -43,10 +43,8 @@ pub fn case_start(
             stack.push(Frame::Statement(StatementFrame::CaseTest))?;
             Ok(Control::Operand)
         }
-        (
-            Some(Frame::Statement(StatementFrame::Switch { has_default: false })),
-            Word::Default,
-        ) => Ok(Control::StatementPart(StatementDue::CaseColon)),
+        (Some(Frame::Statement(StatementFrame::Switch { has_default: false })), Word::Default) =>
+            Ok(Control::StatementPart(StatementDue::CaseColon)),
         _ => Ok(Control::Fail),
     }
 }

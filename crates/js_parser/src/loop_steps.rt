@@ -34,11 +34,17 @@ pub fn for_head(
         }
         Word::Let => {
             pieces.no_declarators()?;
-            Ok(Control::StatementPart(StatementDue::Name { constant: false, role }))
+            Ok(Control::StatementPart(StatementDue::Name {
+                constant: false,
+                role,
+            }))
         }
         Word::Const => {
             pieces.no_declarators()?;
-            Ok(Control::StatementPart(StatementDue::Name { constant: true, role }))
+            Ok(Control::StatementPart(StatementDue::Name {
+                constant: true,
+                role,
+            }))
         }
         _ => {
             stack.push(Frame::Statement(StatementFrame::ForValue))?;

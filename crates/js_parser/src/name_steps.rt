@@ -56,7 +56,10 @@ pub fn name_next(
         _ if constant => Ok(Control::Fail),
         Word::Comma => {
             pieces.and_bare_declarator()?;
-            Ok(Control::StatementPart(StatementDue::Name { constant: false, role }))
+            Ok(Control::StatementPart(StatementDue::Name {
+                constant: false,
+                role,
+            }))
         }
         _ => {
             pieces.and_bare_declarator()?;

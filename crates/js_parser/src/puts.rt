@@ -80,10 +80,7 @@ fn put_in_item(
 
 /// A statement, which is the last piece. Those that it completes are put down in their turn; the first
 /// statement of an `if` waits for the word behind it.
-pub fn put(
-    stack: &mut Stack<Frame>,
-    pieces: &mut Stack<Piece>,
-) -> Result<Control, AllocError>
+pub fn put(stack: &mut Stack<Frame>, pieces: &mut Stack<Piece>) -> Result<Control, AllocError>
     ensures { IfOk result (λ c. Shows (e.put (h.frames stack.old (rest pieces.old)) (statement_in (first pieces.old))) c stack.new pieces.new) }
 {
     while let Some(frame) = stack.pop() {

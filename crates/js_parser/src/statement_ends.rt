@@ -11,9 +11,7 @@ ghost use Rattle.js_parser.specs.Shows.{Shows};
 ghost use Rattle.js_parser.specs.State.{the_word};
 
 use crate::closes::close;
-use crate::frame::{
-    Control, DeclareRole, Frame, ListRole, Opening, StatementDue, StatementFrame,
-};
+use crate::frame::{Control, DeclareRole, Frame, ListRole, Opening, StatementDue, StatementFrame};
 use crate::name_steps::names_end;
 use crate::puts::put;
 use crate::tables::may_miss;

@@ -1,7 +1,7 @@
 //! The tokens of statements behind the word that they begin with (ECMA-262, 14). What was read of a
 //! statement stands on the store. The one error of a call is want of memory.
 
-ghost use Rattle.std.specs.Prelude.{◌≡◌, ◌∷◌, IfOk};
+ghost use Rattle.std.specs.Prelude.{◌≡◌, ◌∷◌, IfOk, false};
 ghost use Rattle.parser_forms.specs.Kept.{none};
 ghost use Rattle.parser_forms.specs.Parts as p;
 ghost use Rattle.parser_forms.specs.Pieces.{first, given_name, part_in, rest, second, statement_in, statements_in, third};
@@ -60,10 +60,7 @@ fn else_due(
 }
 
 // The `{` of a switch, behind its value.
-fn switch_opened(
-    stack: &mut Stack<Frame>,
-    pieces: &mut Stack<Piece>,
-) -> Result<Control, AllocError>
+fn switch_opened(stack: &mut Stack<Frame>, pieces: &mut Stack<Piece>) -> Result<Control, AllocError>
     ensures { IfOk result (λ c. Shows (statement_part sd.Case (f.Statement (st.Switch (part_in (first pieces.old)).of none false) ∷ h.frames stack.old (rest pieces.old))) c stack.new pieces.new) }
 {
     pieces.no_cases()?;
