@@ -3,7 +3,7 @@
 ghost use Rattle.std.specs.Prelude.{◌∷◌, Some, None, ◌≡◌, IfOk};
 ghost use Rattle.parser_forms.specs.Kept.{none, and_then};
 ghost use Rattle.parser_forms.specs.Parts as p;
-ghost use Rattle.parser_forms.specs.Pieces.{declarators_in, first, fourth, given_expression, given_name, given_statements, head_in, part_in, rest, second, statement_in, statements_in, third};
+ghost use Rattle.parser_forms.specs.Pieces.{declarators_in, first, fourth, given_expression, given_name, given_statements, head_in, name_in, part_in, rest, second, statement_in, statements_in, third};
 ghost use Rattle.parser_forms.specs.declared.pieces.Piece.TheVariants as v;
 
 use crate::kinds::{Bare};
@@ -121,6 +121,27 @@ impl Stack<Piece> {
     /// `try` with `finally`, and perhaps with `catch`.
     pub fn guarded_finally(&mut self) -> Result<(), AllocError>
         ensures { IfOk result (λ done. self.new ≡ v.Statement (p.guarded (statements_in (fourth self.old)) (given_name (third self.old)) (given_statements (second self.old)) (Some (statements_in (first self.old)))) ∷ rest (rest (rest (rest self.old)))) }
+    {
+        Err(AllocError)
+    }
+
+    /// The expression before, as one that isn't left out.
+    pub fn given_expression(&mut self) -> Result<(), AllocError>
+        ensures { IfOk result (λ done. self.new ≡ v.Part (part_in (first self.old)) ∷ rest self.old) }
+    {
+        Err(AllocError)
+    }
+
+    /// The list of statements before, as one that isn't left out.
+    pub fn given_statements(&mut self) -> Result<(), AllocError>
+        ensures { IfOk result (λ done. self.new ≡ v.Statements (statements_in (first self.old)) ∷ rest self.old) }
+    {
+        Err(AllocError)
+    }
+
+    /// The name before, as one that isn't left out.
+    pub fn given_name(&mut self) -> Result<(), AllocError>
+        ensures { IfOk result (λ done. self.new ≡ v.Name (name_in (first self.old)) ∷ rest self.old) }
     {
         Err(AllocError)
     }
