@@ -5,7 +5,14 @@ ghost use Rattle.js_parser.specs.Held as h;
 ghost use Rattle.js_parser.specs.Machine as m;
 ghost use Rattle.js_parser.specs.Shows.{Shows};
 
+use crate::begins::begin;
+use crate::expression_steps::expression_step;
 use crate::frame::{Control, Frame};
+use crate::item_steps::item_step;
+use crate::member_steps::member_step;
+use crate::operands::operand;
+use crate::settle::settle;
+use crate::statement_steps::statement_step;
 use es_model::Token;
 use parser_forms::{Piece, Stack};
 use std::alloc::AllocError;
@@ -20,5 +27,15 @@ pub fn step(
 ) -> Result<Control, AllocError>
     ensures { IfOk result (λ c. Shows (m.step (h.held control stack.old pieces.old) token.now) c stack.new pieces.new) }
 {
-    Err(AllocError)
+    match control {
+        Control::Fail => Ok(Control::Fail),
+        Control::Operand => operand(stack, pieces, token),
+        Control::Read => settle(stack, pieces, token),
+        Control::Statement => begin(stack, pieces, token),
+        Control::Expression(due) => expression_step(stack, pieces, due, token),
+        Control::Member(due) => member_step(stack, pieces, due, token),
+        Control::StatementPart(due) => statement_step(stack, pieces, due, token),
+        Control::Item(due) => item_step(stack, pieces, due, token),
+        Control::Done => Ok(Control::Fail),
+    }
 }
