@@ -6,12 +6,26 @@ ghost use Rattle.parser_forms.specs.Kept as k;
 ghost use Rattle.parser_forms.specs.Kept.{left_out, map_tree, raised, unboxed};
 
 use crate::parts::Kept;
+use crate::pieces::Piece;
 use es_model::TreeList;
 use std::alloc::{AllocError, Global};
 
 /// Lets a value go. What holds a tree is let go by this call, so that the proof of a caller has no more
 /// than the call at each of its ends.
 pub(crate) fn lose<T: Drop>(_value: T) {}
+
+/// Lets a piece go.
+pub(crate) fn lose_piece(_piece: Piece) {}
+
+/// Something with nothing in it, which doesn't count itself.
+pub fn flat<T: Drop>(tree: T) -> Kept<T>
+    ensures { result ≡ k.flat tree }
+{
+    Kept {
+        tree: Some(tree),
+        nesting: 0,
+    }
+}
 
 /// One level of nesting more, up to 65.
 pub fn raise(nesting: u8) -> u8
