@@ -3,7 +3,7 @@
 
 ghost use Rattle.std.specs.Prelude.{◌≡◌, ◌∷◌, ◌++◌, [], IfOk};
 ghost use Rattle.parser_forms.specs.Kept as k;
-ghost use Rattle.parser_forms.specs.Kept.{left_out, map_tree, raised, unboxed};
+ghost use Rattle.parser_forms.specs.Kept.{map_tree, raised, unboxed};
 
 use crate::parts::Kept;
 use crate::pieces::Piece;
@@ -60,30 +60,6 @@ pub fn both<A: Drop, B: Drop>(first: Kept<A>, second: Kept<B>) -> Kept<(A, B)>
     let tree = match (first, second) {
         (Some(first), Some(second)) => Some((first, second)),
         _ => None,
-    };
-    Kept { tree, nesting }
-}
-
-/// A thing that may be left out.
-pub fn optional<T: Drop>(of: Option<Kept<T>>) -> Kept<Option<T>>
-    ensures { result ≡ left_out of }
-{
-    match of {
-        Some(of) => given(of),
-        None => Kept {
-            tree: Some(None),
-            nesting: 0,
-        },
-    }
-}
-
-fn given<T: Drop>(of: Kept<T>) -> Kept<Option<T>>
-    ensures { result ≡ left_out (Some of) }
-{
-    let Kept { tree, nesting } = of;
-    let tree = match tree {
-        Some(tree) => Some(Some(tree)),
-        None => None,
     };
     Kept { tree, nesting }
 }
