@@ -54,11 +54,7 @@ none = flat t.none
 abbrev pub and_then : {s : t.Sort} → Sorted (t.list s) → Sorted s → Sorted (t.list s)
 and_then list last = both followed list last
 
--- Of what the code holds: a tree that may be left out, and one in a box.
-abbrev pub left_out : {A : Type 0} → Option (Kept A) → Kept (Option A)
-left_out None = flat None
-left_out (Some a) = around Some a
-
+-- Of what the code holds: a tree in a box.
 abbrev pub unboxed : {A : Type 0} → Kept (Box A Global) → Kept A
 unboxed a = around (λ box. box.value) a
 

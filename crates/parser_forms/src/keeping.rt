@@ -3,15 +3,29 @@
 
 ghost use Rattle.std.specs.Prelude.{◌≡◌, ◌∷◌, ◌++◌, [], IfOk};
 ghost use Rattle.parser_forms.specs.Kept as k;
-ghost use Rattle.parser_forms.specs.Kept.{left_out, map_tree, raised, unboxed};
+ghost use Rattle.parser_forms.specs.Kept.{map_tree, raised, unboxed};
 
 use crate::parts::Kept;
+use crate::pieces::Piece;
 use es_model::TreeList;
 use std::alloc::{AllocError, Global};
 
 /// Lets a value go. What holds a tree is let go by this call, so that the proof of a caller has no more
 /// than the call at each of its ends.
 pub(crate) fn lose<T: Drop>(_value: T) {}
+
+/// Lets a piece go.
+pub(crate) fn lose_piece(_piece: Piece) {}
+
+/// Something with nothing in it, which doesn't count itself.
+pub fn flat<T: Drop>(tree: T) -> Kept<T>
+    ensures { result ≡ k.flat tree }
+{
+    Kept {
+        tree: Some(tree),
+        nesting: 0,
+    }
+}
 
 /// One level of nesting more, up to 65.
 pub fn raise(nesting: u8) -> u8
@@ -46,30 +60,6 @@ pub fn both<A: Drop, B: Drop>(first: Kept<A>, second: Kept<B>) -> Kept<(A, B)>
     let tree = match (first, second) {
         (Some(first), Some(second)) => Some((first, second)),
         _ => None,
-    };
-    Kept { tree, nesting }
-}
-
-/// A thing that may be left out.
-pub fn optional<T: Drop>(of: Option<Kept<T>>) -> Kept<Option<T>>
-    ensures { result ≡ left_out of }
-{
-    match of {
-        Some(of) => given(of),
-        None => Kept {
-            tree: Some(None),
-            nesting: 0,
-        },
-    }
-}
-
-fn given<T: Drop>(of: Kept<T>) -> Kept<Option<T>>
-    ensures { result ≡ left_out (Some of) }
-{
-    let Kept { tree, nesting } = of;
-    let tree = match tree {
-        Some(tree) => Some(Some(tree)),
-        None => None,
     };
     Kept { tree, nesting }
 }

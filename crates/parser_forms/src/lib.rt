@@ -16,6 +16,8 @@ mod statements;
 mod texts;
 mod trees;
 mod pieces;
+mod readers;
+mod shapes;
 mod stack;
 
 pub use keeping::raise;

@@ -2,13 +2,20 @@
 //! (ECMA-262, 14.3, 14.7 and 14.12).
 
 ghost use Rattle.std.specs.Prelude.{◌∷◌, Some, None, ◌≡◌, IfOk};
-ghost use Rattle.parser_forms.specs.Kept.{none, and_then};
+ghost use Rattle.es_model.specs.Tree as t;
+ghost use Rattle.parser_forms.specs.Kept.{and_then, around, both as side_by_side, none};
 ghost use Rattle.parser_forms.specs.Parts as p;
 ghost use Rattle.parser_forms.specs.Pieces.{cases_in, declarators_in, first, name_in, part_in, rest, second, statements_in, third};
 ghost use Rattle.parser_forms.specs.declared.pieces.Piece.TheVariants as v;
 
+use crate::keeping::{both, box_beside, counted, flat, lose, push};
+use crate::parts::Kept;
 use crate::pieces::Piece;
+use crate::readers::{boxed_beside, given_expression};
+use crate::shapes::Empty;
 use crate::stack::Stack;
+use crate::trees::{Cases, Declarators, HeadTree, OptionalExpression, Statements};
+use es_model::{Case, Declarator, Head, Identifier, Statement, StatementForm};
 use std::alloc::AllocError;
 
 impl Stack<Piece> {
@@ -16,69 +23,149 @@ impl Stack<Piece> {
     pub fn no_declarators(&mut self) -> Result<(), AllocError>
         ensures { IfOk result (λ done. self.new ≡ v.Declarators none ∷ self.old) }
     {
-        Err(AllocError)
+        self.put_empty(Empty::Declarators)
     }
 
     /// The list of declared names, and behind it a name with its initialiser.
     pub fn and_declarator(&mut self) -> Result<(), AllocError>
         ensures { IfOk result (λ done. self.new ≡ v.Declarators (and_then (declarators_in (third self.old)) (p.declarator (name_in (second self.old)) (Some (part_in (first self.old)).of))) ∷ rest (rest (rest self.old))) }
     {
-        Err(AllocError)
+        let value = given_expression(self.take_expression());
+        let own = self.take_name();
+        self.put_declarator(own, value)
     }
 
     /// The list of declared names, and behind it a name without one.
     pub fn and_bare_declarator(&mut self) -> Result<(), AllocError>
         ensures { IfOk result (λ done. self.new ≡ v.Declarators (and_then (declarators_in (second self.old)) (p.declarator (name_in (first self.old)) None)) ∷ rest (rest self.old)) }
     {
-        Err(AllocError)
+        let own = self.take_name();
+        self.put_declarator(own, flat(OptionalExpression { tree: None }))
     }
 
     /// No cases of a switch.
     pub fn no_cases(&mut self) -> Result<(), AllocError>
         ensures { IfOk result (λ done. self.new ≡ v.Cases none ∷ self.old) }
     {
-        Err(AllocError)
+        self.put_empty(Empty::Cases)
     }
 
     /// The list of cases, and behind it one with its test and its statements.
     pub fn and_case(&mut self) -> Result<(), AllocError>
         ensures { IfOk result (λ done. self.new ≡ v.Cases (and_then (cases_in (third self.old)) (p.case (Some (part_in (second self.old)).of) (statements_in (first self.old)))) ∷ rest (rest (rest self.old))) }
     {
-        Err(AllocError)
+        let body = self.take_statements();
+        let test = given_expression(self.take_expression());
+        self.put_case(test, body)
     }
 
     /// The list of cases, and behind it the default with its statements.
     pub fn and_default_case(&mut self) -> Result<(), AllocError>
         ensures { IfOk result (λ done. self.new ≡ v.Cases (and_then (cases_in (second self.old)) (p.case None (statements_in (first self.old)))) ∷ rest (rest self.old)) }
     {
-        Err(AllocError)
+        let body = self.take_statements();
+        self.put_case(flat(OptionalExpression { tree: None }), body)
     }
 
     /// A switch.
     pub fn switch(&mut self) -> Result<(), AllocError>
         ensures { IfOk result (λ done. self.new ≡ v.Statement (p.switch (part_in (second self.old)).of (cases_in (first self.old))) ∷ rest (rest self.old)) }
     {
-        Err(AllocError)
+        let cases = self.take_cases();
+        let Kept { tree, nesting } = counted(both(self.take_expression(), cases));
+        let tree = match tree {
+            Some((value, cases)) => {
+                let (value, cases) = box_beside(self.alloc(), value, cases)?;
+                let cases = cases.trees;
+                let form = StatementForm::Switch { value, cases };
+                Some(Statement { form })
+            }
+            None => None,
+        };
+        self.push(Piece::Statement(Kept { tree, nesting }))
     }
 
     /// What stands first in the parentheses of a `for`, where nothing does.
     pub fn head_nothing(&mut self) -> Result<(), AllocError>
         ensures { IfOk result (λ done. self.new ≡ v.Head p.head_nothing ∷ self.old) }
     {
-        Err(AllocError)
+        self.put_empty(Empty::Head)
     }
 
     /// An expression first in the parentheses of a `for`.
     pub fn head_value(&mut self) -> Result<(), AllocError>
         ensures { IfOk result (λ done. self.new ≡ v.Head (p.head_value (part_in (first self.old)).of) ∷ rest self.old) }
     {
-        Err(AllocError)
+        let Kept { tree, nesting } = self.take_expression();
+        let tree = match tree {
+            Some(of) => {
+                let tree = Head::Value(Box::new(self.alloc(), of)?);
+                Some(HeadTree { tree })
+            }
+            None => None,
+        };
+        self.push(Piece::Head(Kept { tree, nesting }))
     }
 
     /// Declared names first in the parentheses of a `for`.
     pub fn head_declare(&mut self, constant: bool) -> Result<(), AllocError>
         ensures { IfOk result (λ done. self.new ≡ v.Head (p.head_declare constant (declarators_in (first self.old))) ∷ rest self.old) }
     {
-        Err(AllocError)
+        let Kept { tree, nesting } = self.take_declarators();
+        let tree = match tree {
+            Some(names) => {
+                let names = names.trees;
+                let tree = Head::Declare { constant, names };
+                Some(HeadTree { tree })
+            }
+            None => None,
+        };
+        self.push(Piece::Head(Kept { tree, nesting }))
+    }
+
+    // The list of declared names, and one more behind it.
+    #[tactic(auto, using(crate::proofs::ListLaws::mapped_last))]
+    fn put_declarator(
+        &mut self,
+        own: Identifier,
+        value: Kept<OptionalExpression>,
+    ) -> Result<(), AllocError>
+        ensures { IfOk result (λ done. self.new ≡ v.Declarators (and_then (declarators_in (first self.old)) (around (t.DeclaratorOf own) value)) ∷ rest self.old) }
+    {
+        let Kept { tree, nesting } = both(self.take_declarators(), value);
+        let tree = match tree {
+            Some((list, value)) => {
+                let (value, (name, list)) = boxed_beside(self.alloc(), value, (own, list))?;
+                let trees = push(list.trees, Declarator { name, value })?;
+                Some(Declarators { trees })
+            }
+            None => {
+                lose(own);
+                None
+            }
+        };
+        self.push(Piece::Declarators(Kept { tree, nesting }))
+    }
+
+    // The list of cases, and one more behind it.
+    #[tactic(auto, using(crate::proofs::ListLaws::mapped_last))]
+    fn put_case(
+        &mut self,
+        test: Kept<OptionalExpression>,
+        body: Kept<Statements>,
+    ) -> Result<(), AllocError>
+        ensures { IfOk result (λ done. self.new ≡ v.Cases (and_then (cases_in (first self.old)) (side_by_side t.CaseOf test body)) ∷ rest self.old) }
+    {
+        let Kept { tree, nesting } = both(self.take_cases(), both(test, body));
+        let tree = match tree {
+            Some((list, (test, body))) => {
+                let (test, (body, list)) = boxed_beside(self.alloc(), test, (body, list))?;
+                let body = body.trees;
+                let trees = push(list.trees, Case { test, body })?;
+                Some(Cases { trees })
+            }
+            None => None,
+        };
+        self.push(Piece::Cases(Kept { tree, nesting }))
     }
 }

@@ -1,18 +1,20 @@
 //! The store of what was read. A form that waits for more has its parts here, and what reads it names
 //! none of them: they are the last ones that were put here, in the order of the text.
 
-ghost use Rattle.std.specs.Prelude.{◌≡◌, ◌∷◌, [], IfOk};
+ghost use Rattle.std.specs.Prelude.{◌≡◌, ◌∷◌, [], IfOk, true};
 ghost use Rattle.parser_forms.specs.Asks as asks;
 ghost use Rattle.parser_forms.specs.Kept.{none};
 ghost use Rattle.parser_forms.specs.Pieces.{Finds, first, items_in, part_in, rest};
+ghost use Rattle.parser_forms.specs.Shapes as shapes;
 ghost use Rattle.parser_forms.specs.declared.pieces.Piece.TheVariants as v;
 
-use crate::keeping::lose;
+use crate::keeping::{flat, lose, lose_piece};
 use crate::kinds::{Infix, left_level};
-use crate::parts::{KeyPart, Kept, Part};
+use crate::parts::{Heading, KeyPart, Kept, Part};
+use crate::shapes::{Empty, Standing};
 use crate::stack::Stack;
 use crate::trees::{Cases, Declarators, Expressions, HeadTree, Items, Members, Statements};
-use es_model::{Identifier, Module, Pair, Statement, TreeList};
+use es_model::{Head, Identifier, Module, Pair, Statement, TreeList};
 use js_value::Units;
 use std::alloc::{AllocError, Global};
 
@@ -35,17 +37,6 @@ pub enum Piece {
     Text(Units),
     Texts(TreeList<Units>),
     Pairs(TreeList<Pair>),
-}
-
-// What an expression is, but for its tree.
-#[derive(Clone, Copy)]
-struct Standing {
-    at: u32,
-    level: u8,
-    is_target: bool,
-    is_nullish: bool,
-    is_bare_new: bool,
-    has_call: bool,
 }
 
 /// The store of what was read: the last one that was read is on top. The one error of each call is want
@@ -78,7 +69,7 @@ impl Stack<Piece> {
     pub fn nothing(&mut self) -> Result<(), AllocError>
         ensures { IfOk result (λ done. self.new ≡ v.Nothing ∷ self.old) }
     {
-        self.push(Piece::Nothing)
+        self.put_empty(Empty::Nothing)
     }
 
     /// Lets all pieces go.
@@ -90,7 +81,7 @@ impl Stack<Piece> {
     pub fn forget(&mut self)
         ensures { self.new ≡ rest self.old }
     {
-        lose(self.take());
+        lose_piece(self.take());
     }
 
     // What the last expression is, but for its tree.
@@ -143,6 +134,13 @@ impl Stack<Piece> {
         self.standing().is_target
     }
 
+    /// Whether the last expression is a call or has one in it.
+    pub(crate) fn has_call(&self) -> bool
+        ensures { result ≡ (part_in (first self.now)).has_call }
+    {
+        self.standing().has_call
+    }
+
     /// Whether the last expression may be the left operand of an operator.
     pub fn is_left_of(&self, operator: Infix) -> bool
         ensures { result ≡ asks.is_left_of operator (part_in (first self.now)) }
@@ -180,7 +178,17 @@ impl Stack<Piece> {
     pub fn take_head(&mut self) -> Result<bool, AllocError>
         ensures { IfOk result (λ found. Finds found (asks.head_of (part_in (first self.old)).heading) self.old self.new) }
     {
-        Err(AllocError)
+        match self.take_part().into_heading() {
+            Heading::Name(one) => self.put_found(one),
+            Heading::Head(names) => {
+                self.put_names(names)?;
+                Ok(true)
+            }
+            other => {
+                lose(other);
+                Ok(false)
+            }
+        }
     }
 
     /// Takes the names that the last expression lists; false where it lists none, and the expression is
@@ -188,30 +196,63 @@ impl Stack<Piece> {
     pub fn take_list(&mut self) -> Result<bool, AllocError>
         ensures { IfOk result (λ found. Finds found (asks.list_of (part_in (first self.old)).heading) self.old self.new) }
     {
-        Err(AllocError)
-    }
-
-    // The items that were read last.
-    pub(crate) fn items(&mut self) -> Kept<Items>
-        ensures { (result ≡ items_in (first self.old)) × (self.new ≡ rest self.old) }
-    {
-        match self.take() {
-            Piece::Items(list) => list,
+        match self.take_part().into_heading() {
+            Heading::Name(one) => self.put_found(one),
+            Heading::Names(names) => {
+                self.put_names(names)?;
+                Ok(true)
+            }
             other => {
                 lose(other);
-                Kept {
-                    tree: None,
-                    nesting: 0,
-                }
+                Ok(false)
             }
         }
+    }
+
+    // A name that was found, as the list of it alone.
+    fn put_found(&mut self, one: Identifier) -> Result<bool, AllocError>
+        ensures { IfOk result (λ found. (found ≡ true) × (self.new ≡ v.Names (one ∷ []) ∷ self.old)) }
+    {
+        let mut names = TreeList::new(self.alloc());
+        names.push(one)?;
+        self.put_names(names)?;
+        Ok(true)
+    }
+
+    /// What has nothing in it.
+    pub(crate) fn put_empty(&mut self, of: Empty) -> Result<(), AllocError>
+        ensures { IfOk result (λ done. self.new ≡ shapes.empty of ∷ self.old) }
+    {
+        let alloc = self.alloc();
+        let piece = match of {
+            Empty::Nothing => Piece::Nothing,
+            Empty::Expressions => Piece::Expressions(flat(Expressions {
+                trees: TreeList::new(alloc),
+            })),
+            Empty::Statements => Piece::Statements(flat(Statements {
+                trees: TreeList::new(alloc),
+            })),
+            Empty::Members => Piece::Members(flat(Members {
+                trees: TreeList::new(alloc),
+            })),
+            Empty::Declarators => Piece::Declarators(flat(Declarators {
+                trees: TreeList::new(alloc),
+            })),
+            Empty::Cases => Piece::Cases(flat(Cases {
+                trees: TreeList::new(alloc),
+            })),
+            Empty::Head => Piece::Head(flat(HeadTree {
+                tree: Head::Nothing,
+            })),
+        };
+        self.push(piece)
     }
 
     /// The module that was read, unless it is nested deeper than 64.
     pub fn module(&mut self) -> Option<Module>
         ensures { result ≡ (items_in (first self.old)).tree }
     {
-        let Kept { tree, nesting: _ } = self.items();
+        let Kept { tree, nesting: _ } = self.take_items();
         match tree {
             Some(items) => Some(Module { items: items.trees }),
             None => None,

@@ -1,128 +1,325 @@
 //! Statements, form by form (ECMA-262, 14).
 
 ghost use Rattle.std.specs.Prelude.{◌∷◌, Some, None, ◌≡◌, IfOk};
-ghost use Rattle.parser_forms.specs.Kept.{none, and_then};
+ghost use Rattle.es_model.specs.Tree as t;
+ghost use Rattle.parser_forms.specs.Kept.{and_then, around, both as side_by_side, counted as one_more, none};
+ghost use Rattle.parser_forms.specs.Shapes as shapes;
 ghost use Rattle.parser_forms.specs.Parts as p;
 ghost use Rattle.parser_forms.specs.Pieces.{declarators_in, first, fourth, given_expression, given_name, given_statements, head_in, name_in, part_in, rest, second, statement_in, statements_in, third};
 ghost use Rattle.parser_forms.specs.declared.pieces.Piece.TheVariants as v;
 
-use crate::kinds::{Bare};
+use crate::keeping::{
+    both, box_beside, counted, counted_box, flat, lose, push, three_boxes, two_boxes,
+};
+use crate::kinds::Bare;
+use crate::parts::Kept;
 use crate::pieces::Piece;
+use crate::readers::{boxed_beside, given_statements};
+use crate::shapes::{Bodied, Empty, Valued};
 use crate::stack::Stack;
-use es_model::{Semi};
-use std::alloc::AllocError;
+use crate::trees::{HeadTree, OptionalExpression, OptionalStatements, Statements};
+use es_model::{Expression, Identifier, Semi, Statement, StatementForm};
+use std::alloc::{AllocError, Global};
+
+fn valued(form: Valued, value: Box<Expression>) -> Statement
+    ensures { result ≡ shapes.valued form value.value }
+{
+    let form = match form {
+        Valued::Value { semi } => StatementForm::Value { value, semi },
+        Valued::Return { at, semi } => StatementForm::Return {
+            at,
+            value: Some(value),
+            semi,
+        },
+        Valued::Throw { semi } => StatementForm::Throw { value, semi },
+    };
+    Statement { form }
+}
+
+fn bodied(form: Bodied, test: Box<Expression>, body: Box<Statement>) -> Statement
+    ensures { result ≡ shapes.bodied form test.value body.value }
+{
+    let form = match form {
+        Bodied::While => StatementForm::While { test, body },
+        Bodied::If => StatementForm::If {
+            test,
+            yes: body,
+            other: None,
+        },
+    };
+    Statement { form }
+}
+
+fn for_tree(
+    alloc: Global,
+    head: HeadTree,
+    test: OptionalExpression,
+    step: OptionalExpression,
+    body: Statement,
+) -> Result<Statement, AllocError>
+    ensures { IfOk result (λ made. made ≡ t.For head test step body) }
+{
+    let (head, (test, (step, body))) = box_beside(alloc, head.tree, (test, (step, body)))?;
+    let (body, (head, (test, step))) = box_beside(alloc, body, (head, (test, step)))?;
+    let (test, (head, (step, body))) = boxed_beside(alloc, test, (head, (step, body)))?;
+    let (step, (head, (test, body))) = boxed_beside(alloc, step, (head, (test, body)))?;
+    let form = StatementForm::For {
+        head,
+        test,
+        step,
+        body,
+    };
+    Ok(Statement { form })
+}
 
 impl Stack<Piece> {
     /// No statements.
     pub fn no_statements(&mut self) -> Result<(), AllocError>
         ensures { IfOk result (λ done. self.new ≡ v.Statements none ∷ self.old) }
     {
-        Err(AllocError)
+        self.put_empty(Empty::Statements)
     }
 
     /// The list of statements, and the statement before behind it.
+    #[tactic(auto, using(crate::proofs::ListLaws::listed_last))]
     pub fn and_statement(&mut self) -> Result<(), AllocError>
         ensures { IfOk result (λ done. self.new ≡ v.Statements (and_then (statements_in (second self.old)) (statement_in (first self.old))) ∷ rest (rest self.old)) }
     {
-        Err(AllocError)
+        let last = self.take_statement();
+        let Kept { tree, nesting } = both(self.take_statements(), last);
+        let tree = match tree {
+            Some((list, last)) => {
+                let trees = push(list.trees, last)?;
+                Some(Statements { trees })
+            }
+            None => None,
+        };
+        self.push(Piece::Statements(Kept { tree, nesting }))
     }
 
     /// A statement with nothing in it.
     pub fn bare(&mut self, of: Bare) -> Result<(), AllocError>
         ensures { IfOk result (λ done. self.new ≡ v.Statement (p.bare (p.bare_tree of)) ∷ self.old) }
     {
-        Err(AllocError)
+        let form = match of {
+            Bare::Empty => StatementForm::Empty,
+            Bare::Break { at, semi } => StatementForm::Break { at, semi },
+            Bare::Continue { at, semi } => StatementForm::Continue { at, semi },
+        };
+        let tree = Some(Statement { form });
+        self.push(Piece::Statement(Kept { tree, nesting: 1 }))
     }
 
     /// An expression as a statement.
     pub fn value(&mut self, semi: Semi) -> Result<(), AllocError>
         ensures { IfOk result (λ done. self.new ≡ v.Statement (p.value (part_in (first self.old)).of semi) ∷ rest self.old) }
     {
-        Err(AllocError)
+        self.put_valued(Valued::Value { semi })
     }
 
     /// `let` or `const` with its names.
     pub fn declare(&mut self, constant: bool, semi: Semi) -> Result<(), AllocError>
         ensures { IfOk result (λ done. self.new ≡ v.Statement (p.declare constant (declarators_in (first self.old)) semi) ∷ rest self.old) }
     {
-        Err(AllocError)
+        let Kept { tree, nesting } = counted(self.take_declarators());
+        let tree = match tree {
+            Some(names) => {
+                let names = names.trees;
+                let form = StatementForm::Declare {
+                    constant,
+                    names,
+                    semi,
+                };
+                Some(Statement { form })
+            }
+            None => None,
+        };
+        self.push(Piece::Statement(Kept { tree, nesting }))
     }
 
     /// A block.
     pub fn block(&mut self) -> Result<(), AllocError>
         ensures { IfOk result (λ done. self.new ≡ v.Statement (p.block (statements_in (first self.old))) ∷ rest self.old) }
     {
-        Err(AllocError)
+        let Kept { tree, nesting } = counted(self.take_statements());
+        let tree = match tree {
+            Some(statements) => {
+                let form = StatementForm::Block(statements.trees);
+                Some(Statement { form })
+            }
+            None => None,
+        };
+        self.push(Piece::Statement(Kept { tree, nesting }))
     }
 
     /// `if` without `else`.
     pub fn choice(&mut self) -> Result<(), AllocError>
         ensures { IfOk result (λ done. self.new ≡ v.Statement (p.choice (part_in (second self.old)).of (statement_in (first self.old)) None) ∷ rest (rest self.old)) }
     {
-        Err(AllocError)
+        self.put_bodied(Bodied::If)
     }
 
     /// `if` with `else`.
     pub fn choice_else(&mut self) -> Result<(), AllocError>
         ensures { IfOk result (λ done. self.new ≡ v.Statement (p.choice (part_in (third self.old)).of (statement_in (second self.old)) (Some (statement_in (first self.old)))) ∷ rest (rest (rest self.old))) }
     {
-        Err(AllocError)
+        let other = self.take_statement();
+        let first = self.take_statement();
+        let arms = both(self.take_expression(), first);
+        let Kept { tree, nesting } = counted(both(arms, other));
+        let tree = match tree {
+            Some(((test, yes), other)) => {
+                let (test, yes, other) = three_boxes(self.alloc(), test, yes, other)?;
+                let other = Some(other);
+                let form = StatementForm::If { test, yes, other };
+                Some(Statement { form })
+            }
+            None => None,
+        };
+        self.push(Piece::Statement(Kept { tree, nesting }))
     }
 
     /// `for`.
     pub fn for_loop(&mut self) -> Result<(), AllocError>
         ensures { IfOk result (λ done. self.new ≡ v.Statement (p.for_loop (head_in (fourth self.old)) (given_expression (third self.old)) (given_expression (second self.old)) (statement_in (first self.old))) ∷ rest (rest (rest (rest self.old)))) }
     {
-        Err(AllocError)
+        let body = self.take_statement();
+        let step = self.take_given_expression();
+        let test = self.take_given_expression();
+        let first = both(self.take_head_tree(), test);
+        let Kept { tree, nesting } = counted(both(both(first, step), body));
+        let tree = match tree {
+            Some((((head, test), step), body)) => Some(for_tree(self.alloc(), head, test, step, body)?),
+            None => None,
+        };
+        self.push(Piece::Statement(Kept { tree, nesting }))
     }
 
     /// `while`.
     pub fn while_loop(&mut self) -> Result<(), AllocError>
         ensures { IfOk result (λ done. self.new ≡ v.Statement (p.while_loop (part_in (second self.old)).of (statement_in (first self.old))) ∷ rest (rest self.old)) }
     {
-        Err(AllocError)
+        self.put_bodied(Bodied::While)
     }
 
     /// `do` and `while`.
     pub fn do_loop(&mut self, semi: Semi) -> Result<(), AllocError>
         ensures { IfOk result (λ done. self.new ≡ v.Statement (p.do_loop (statement_in (second self.old)) (part_in (first self.old)).of semi) ∷ rest (rest self.old)) }
     {
-        Err(AllocError)
+        let test = self.take_expression();
+        let Kept { tree, nesting } = counted(both(self.take_statement(), test));
+        let tree = match tree {
+            Some((body, test)) => {
+                let (body, test) = two_boxes(self.alloc(), body, test)?;
+                let form = StatementForm::DoWhile { body, test, semi };
+                Some(Statement { form })
+            }
+            None => None,
+        };
+        self.push(Piece::Statement(Kept { tree, nesting }))
     }
 
     /// `return` with a value.
     pub fn return_value(&mut self, at: u32, semi: Semi) -> Result<(), AllocError>
         ensures { IfOk result (λ done. self.new ≡ v.Statement (p.return at (Some (part_in (first self.old)).of) semi) ∷ rest self.old) }
     {
-        Err(AllocError)
+        self.put_valued(Valued::Return { at, semi })
     }
 
     /// `return` without a value.
     pub fn return_nothing(&mut self, at: u32, semi: Semi) -> Result<(), AllocError>
         ensures { IfOk result (λ done. self.new ≡ v.Statement (p.return at None semi) ∷ self.old) }
     {
-        Err(AllocError)
+        let value = None;
+        let form = StatementForm::Return { at, value, semi };
+        let tree = Some(Statement { form });
+        self.push(Piece::Statement(Kept { tree, nesting: 1 }))
     }
 
     /// `throw`.
     pub fn throw(&mut self, semi: Semi) -> Result<(), AllocError>
         ensures { IfOk result (λ done. self.new ≡ v.Statement (p.throw (part_in (first self.old)).of semi) ∷ rest self.old) }
     {
-        Err(AllocError)
+        self.put_valued(Valued::Throw { semi })
     }
 
     /// `try` with `catch` and without `finally`.
     pub fn guarded(&mut self) -> Result<(), AllocError>
         ensures { IfOk result (λ done. self.new ≡ v.Statement (p.guarded (statements_in (third self.old)) (given_name (second self.old)) (Some (statements_in (first self.old))) None) ∷ rest (rest (rest self.old))) }
     {
-        Err(AllocError)
+        let catch = given_statements(self.take_statements());
+        let caught = self.take_given_name();
+        let tried = self.take_statements();
+        let finally = flat(OptionalStatements { trees: None });
+        self.put_guarded(tried, caught, catch, finally)
     }
 
     /// `try` with `finally`, and perhaps with `catch`.
     pub fn guarded_finally(&mut self) -> Result<(), AllocError>
         ensures { IfOk result (λ done. self.new ≡ v.Statement (p.guarded (statements_in (fourth self.old)) (given_name (third self.old)) (given_statements (second self.old)) (Some (statements_in (first self.old)))) ∷ rest (rest (rest (rest self.old)))) }
     {
-        Err(AllocError)
+        let finally = given_statements(self.take_statements());
+        let catch = self.take_given_statements();
+        let caught = self.take_given_name();
+        let tried = self.take_statements();
+        self.put_guarded(tried, caught, catch, finally)
+    }
+
+    // A statement round the expression before.
+    fn put_valued(&mut self, form: Valued) -> Result<(), AllocError>
+        ensures { IfOk result (λ done. self.new ≡ v.Statement (one_more (around (shapes.valued form) (part_in (first self.old)).of)) ∷ rest self.old) }
+    {
+        let of = self.take_expression();
+        let Kept { tree, nesting } = counted_box(self.alloc(), of)?;
+        let tree = match tree {
+            Some(value) => Some(valued(form, value)),
+            None => None,
+        };
+        self.push(Piece::Statement(Kept { tree, nesting }))
+    }
+
+    // A statement round an expression and the statement behind it.
+    fn put_bodied(&mut self, form: Bodied) -> Result<(), AllocError>
+        ensures { IfOk result (λ done. self.new ≡ v.Statement (one_more (side_by_side (shapes.bodied form) (part_in (second self.old)).of (statement_in (first self.old)))) ∷ rest (rest self.old)) }
+    {
+        let body = self.take_statement();
+        let Kept { tree, nesting } = counted(both(self.take_expression(), body));
+        let tree = match tree {
+            Some((test, body)) => {
+                let (test, body) = two_boxes(self.alloc(), test, body)?;
+                Some(bodied(form, test, body))
+            }
+            None => None,
+        };
+        self.push(Piece::Statement(Kept { tree, nesting }))
+    }
+
+    fn put_guarded(
+        &mut self,
+        tried: Kept<Statements>,
+        caught: Option<Identifier>,
+        catch: Kept<OptionalStatements>,
+        finally: Kept<OptionalStatements>,
+    ) -> Result<(), AllocError>
+        ensures { IfOk result (λ done. self.new ≡ v.Statement (one_more (side_by_side (λ make tree. make tree) (side_by_side (λ one two. t.Try one caught two) tried catch) finally)) ∷ self.old) }
+    {
+        let Kept { tree, nesting } = counted(both(both(tried, catch), finally));
+        let tree = match tree {
+            Some(((block, catch), finally)) => {
+                let form = StatementForm::Try {
+                    block: block.trees,
+                    name: caught,
+                    catch: catch.trees,
+                    finally: finally.trees,
+                };
+                Some(Statement { form })
+            }
+            None => {
+                lose(caught);
+                None
+            }
+        };
+        self.push(Piece::Statement(Kept { tree, nesting }))
     }
 
     /// The expression before, as one that isn't left out.

@@ -36,3 +36,14 @@ pub fn same_name(alloc: Global, name: &Identifier) -> Result<Identifier, AllocEr
         name: copy_of(alloc, &name.name)?,
     })
 }
+
+/// The text of ASCII characters.
+pub fn text_of(alloc: Global, characters: &str) -> Result<Units, AllocError>
+    ensures { IfOk result (λ text. text ≡ characters.now) }
+{
+    let mut text = Units::new(alloc);
+    for byte in characters.as_bytes() {
+        text.push(u16::from(*byte))?;
+    }
+    Ok(text)
+}

@@ -1,8 +1,7 @@
 //! The trees of the syntax that contracts don't see as pure trees by themselves, each as one of these.
 
 use es_model::{
-    Case, Class, Declarator, Default, Expression, Function, Head, Item, Key, Member, Statement,
-    TreeList,
+    Case, Class, Declarator, Expression, Function, Head, Item, Key, Member, Statement, TreeList,
 };
 use std::marker::Model;
 
@@ -188,24 +187,6 @@ impl Model for HeadTree {
     ghost view = { λ a. head_of a.tree };
 }
 
-/// What `export default` exports. Contracts see it as a tree.
-#[derive(Drop)]
-pub struct DefaultTree {
-    pub tree: Default,
-}
-
-impl Model for DefaultTree {
-    ghost use Rattle.es_model.specs.Tree.{Tree, default};
-    ghost use Rattle.es_model.specs.Codes.{code_of};
-    ghost use Rattle.es_model.specs.ModuleView.{default_of};
-
-    ghost Value = { Tree default };
-
-    ghost coded = { code_of default };
-
-    ghost view = { λ a. default_of a.tree };
-}
-
 /// A member of an object literal or a class. Contracts see it as a tree.
 #[derive(Drop)]
 pub struct MemberTree {
@@ -222,42 +203,6 @@ impl Model for MemberTree {
     ghost coded = { code_of member };
 
     ghost view = { λ a. member_of a.tree };
-}
-
-/// A name with its initialiser. Contracts see it as a tree.
-#[derive(Drop)]
-pub struct DeclaratorTree {
-    pub tree: Declarator,
-}
-
-impl Model for DeclaratorTree {
-    ghost use Rattle.es_model.specs.Tree.{Tree, declarator};
-    ghost use Rattle.es_model.specs.Codes.{code_of};
-    ghost use Rattle.es_model.specs.View.{declarator_of};
-
-    ghost Value = { Tree declarator };
-
-    ghost coded = { code_of declarator };
-
-    ghost view = { λ a. declarator_of a.tree };
-}
-
-/// A case of a switch. Contracts see it as a tree.
-#[derive(Drop)]
-pub struct CaseTree {
-    pub tree: Case,
-}
-
-impl Model for CaseTree {
-    ghost use Rattle.es_model.specs.Tree.{Tree, case};
-    ghost use Rattle.es_model.specs.Codes.{code_of};
-    ghost use Rattle.es_model.specs.View.{case_of};
-
-    ghost Value = { Tree case };
-
-    ghost coded = { code_of case };
-
-    ghost view = { λ a. case_of a.tree };
 }
 
 /// An item of a module. Contracts see it as a tree.
