@@ -16,6 +16,7 @@ use Rattle.js_parser.specs.declared.expression_ends.Closed.TheVariants as ends
 abbrev pub after : Frame → Frames → Part → Token → State
 after frame left part token = closed frame (λ next. settle left next token) left part token
 
-abbrev pub Closes : State → Token → Closed → List the_frame.Frame → Pieces → Type 0
-Closes st token ends.Read forms pieces = st ≡ settle (frames forms (rest pieces)) (part_in (first pieces)) token
-Closes st token (ends.Done now) forms pieces = Shows st now forms pieces
+-- the form is gone, and the part is read in the forms that stood under it
+abbrev pub Closes : State → Token → List the_frame.Frame → Closed → List the_frame.Frame → Pieces → Type 0
+Closes st token before ends.Read forms pieces = (forms ≡ before) × (st ≡ settle (frames before (rest pieces)) (part_in (first pieces)) token)
+Closes st token before (ends.Done now) forms pieces = Shows st now forms pieces

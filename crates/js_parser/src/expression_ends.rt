@@ -141,7 +141,7 @@ fn close_new(
     at: u32,
     token: &Token,
 ) -> Result<Closed, AllocError>
-    ensures { IfOk result (λ made. Closes (after (f.Expression (x.New at)) (h.frames stack.old (rest pieces.old)) (part_in (first pieces.old)) token.now) token.now made stack.new pieces.new) }
+    ensures { IfOk result (λ made. Closes (after (f.Expression (x.New at)) (h.frames stack.old (rest pieces.old)) (part_in (first pieces.old)) token.now) token.now stack.old made stack.new pieces.new) }
 {
     if !pieces.is_new_callee() {
         return Ok(Closed::Done(Control::Fail));
@@ -169,7 +169,7 @@ pub fn close_expression(
     frame: ExpressionFrame,
     token: &Token,
 ) -> Result<Closed, AllocError>
-    ensures { IfOk result (λ made. Closes (after (f.Expression (h.expression_frame frame (rest pieces.old))) (h.frames stack.old (h.under_expression_frame frame (rest pieces.old))) (part_in (first pieces.old)) token.now) token.now made stack.new pieces.new) }
+    ensures { IfOk result (λ made. Closes (after (f.Expression (h.expression_frame frame (rest pieces.old))) (h.frames stack.old (h.under_expression_frame frame (rest pieces.old))) (part_in (first pieces.old)) token.now) token.now stack.old made stack.new pieces.new) }
 {
     match frame {
         ExpressionFrame::Infix { operator } => pieces.operation(operator)?,

@@ -26,7 +26,7 @@ fn close_form(
     frame: Frame,
     token: &Token,
 ) -> Result<Closed, AllocError>
-    ensures { IfOk result (λ made. Closes (after (h.frame frame (rest pieces.old)) (h.frames stack.old (h.under_frame frame (rest pieces.old))) (part_in (first pieces.old)) token.now) token.now made stack.new pieces.new) }
+    ensures { IfOk result (λ made. Closes (after (h.frame frame (rest pieces.old)) (h.frames stack.old (h.under_frame frame (rest pieces.old))) (part_in (first pieces.old)) token.now) token.now stack.old made stack.new pieces.new) }
 {
     match frame {
         Frame::Expression(frame) => close_expression(stack, pieces, frame, token),

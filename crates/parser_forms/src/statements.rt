@@ -326,20 +326,23 @@ impl Stack<Piece> {
     pub fn given_expression(&mut self) -> Result<(), AllocError>
         ensures { IfOk result (λ done. self.new ≡ v.Part (part_in (first self.old)) ∷ rest self.old) }
     {
-        Err(AllocError)
+        let part = self.take_part();
+        self.push(Piece::Part(part))
     }
 
     /// The list of statements before, as one that isn't left out.
     pub fn given_statements(&mut self) -> Result<(), AllocError>
         ensures { IfOk result (λ done. self.new ≡ v.Statements (statements_in (first self.old)) ∷ rest self.old) }
     {
-        Err(AllocError)
+        let list = self.take_statements();
+        self.push(Piece::Statements(list))
     }
 
     /// The name before, as one that isn't left out.
     pub fn given_name(&mut self) -> Result<(), AllocError>
         ensures { IfOk result (λ done. self.new ≡ v.Name (name_in (first self.old)) ∷ rest self.old) }
     {
-        Err(AllocError)
+        let name = self.take_name();
+        self.push(Piece::Name(name))
     }
 }
