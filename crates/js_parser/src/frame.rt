@@ -49,53 +49,29 @@ pub struct ClassStart {
 /// An expression that is open.
 #[derive(Clone, Copy)]
 pub enum ExpressionFrame {
-    Paren {
-        at: u32,
-    },
+    Paren { at: u32 },
     /// Behind the left operand.
-    Infix {
-        operator: Infix,
-    },
-    Prefix {
-        operator: Prefix,
-        at: u32,
-    },
-    Update {
-        at: u32,
-        up: bool,
-    },
-    New {
-        at: u32,
-    },
+    Infix { operator: Infix },
+    Prefix { operator: Prefix, at: u32 },
+    Update { at: u32, up: bool },
+    New { at: u32 },
     /// Between `?` and `:`, behind the test.
     Yes,
     /// Behind the `:` of a conditional, its test and its first arm.
     No,
     /// Behind the target.
-    Assign {
-        operator: Option<BinaryOperator>,
-    },
+    Assign { operator: Option<BinaryOperator> },
     /// Behind the parameters.
-    Arrow {
-        at: u32,
-    },
+    Arrow { at: u32 },
     /// Behind the callee and the arguments so far.
-    Arguments {
-        callee: Callee,
-    },
+    Arguments { callee: Callee },
     /// Behind the items so far.
-    Array {
-        at: u32,
-    },
+    Array { at: u32 },
     /// Behind what the index is of.
     Index,
-    SuperIndex {
-        at: u32,
-    },
+    SuperIndex { at: u32 },
     /// Behind the expressions and the texts so far.
-    Template {
-        at: u32,
-    },
+    Template { at: u32 },
 }
 
 /// A member, a class or an object literal that is open.
@@ -147,9 +123,7 @@ pub enum ListRole {
     Finally,
     /// Behind the parameters, and so is an arrow.
     Function(Signature),
-    Arrow {
-        at: u32,
-    },
+    Arrow { at: u32 },
     /// Behind the test.
     Case,
     Default,
@@ -163,10 +137,7 @@ pub enum StatementFrame {
     /// An expression as a statement.
     Value,
     /// Behind the `=` of a declared name, and the names before.
-    Initialiser {
-        constant: bool,
-        role: DeclareRole,
-    },
+    Initialiser { constant: bool, role: DeclareRole },
     /// The condition of an `if` or a `while`, or the value of a switch.
     Test(Opening),
     /// The condition of a `do..while` loop, behind its statement.
@@ -177,9 +148,7 @@ pub enum StatementFrame {
     ForTest,
     /// The step of a `for`, behind its head and its test, if it has one.
     ForStep,
-    Return {
-        at: u32,
-    },
+    Return { at: u32 },
     Throw,
     /// The test of a case.
     CaseTest,
@@ -193,9 +162,7 @@ pub enum StatementFrame {
     For,
     Do,
     /// Behind the value and the cases so far.
-    Switch {
-        has_default: bool,
-    },
+    Switch { has_default: bool },
 }
 
 /// A module and what is open in it alone.

@@ -150,8 +150,31 @@ fn pair_due(
     }
 }
 
-// Behind the first name of a pair. One name may be both; an import has no name for what is called `default`
-// in the other module.
+// One name that is both: an import has no name for what is called `default` in the other module.
+fn both_names(
+    stack: &Stack<Frame>,
+    pieces: &mut Stack<Piece>,
+    role: PairRole,
+    outer: bool,
+    word: Word,
+) -> Result<Control, AllocError>
+    ensures { IfOk result (λ c. Shows (n.both_names (h.frames stack.now (rest (rest pieces.old))) role (pairs_in (second pieces.old)) (name_in (first pieces.old)) outer word) c stack.now pieces.new) }
+{
+    match (role, outer) {
+        (PairRole::Import, true) => Ok(Control::Fail),
+        (PairRole::Import, false) => {
+            pieces.and_both_names()?;
+            Ok(pair_next(stack, pieces, PairRole::Import, word))
+        }
+        (PairRole::Export { from }, _) => {
+            pieces.and_both_names()?;
+            let from = from || outer;
+            Ok(pair_next(stack, pieces, PairRole::Export { from }, word))
+        }
+    }
+}
+
+// Behind the first name of a pair.
 fn pair_as(
     stack: &Stack<Frame>,
     pieces: &mut Stack<Piece>,
@@ -164,19 +187,10 @@ fn pair_as(
     if is_name(&token.kind, b"as") {
         return Ok(Control::Item(ItemDue::PairGiven { role, outer }));
     }
-    if role == PairRole::Import && outer {
-        return Ok(Control::Fail);
-    }
-    pieces.and_both_names()?;
-    Ok(pair_next(stack, pieces, and_outer(role, outer), word_of_kind(&token.kind)))
+    both_names(stack, pieces, role, outer, word_of_kind(&token.kind))
 }
 
-fn pair_next(
-    stack: &Stack<Frame>,
-    pieces: &Stack<Piece>,
-    role: PairRole,
-    word: Word,
-) -> Control
+fn pair_next(stack: &Stack<Frame>, pieces: &Stack<Piece>, role: PairRole, word: Word) -> Control
     ensures { Shows (n.pair_next (h.frames stack.now (rest pieces.now)) role (pairs_in (first pieces.now)) word) result stack.now pieces.now }
 {
     match word {
@@ -247,19 +261,26 @@ fn other_end(
     ensures { IfOk result (λ c. Shows (n.item_step (nd.OtherEnd role (pairs_in (second pieces.old)) (text_in (first pieces.old))) (h.frames stack.old (rest (rest pieces.old))) token.now) c stack.new pieces.new) }
 {
     let word = word_of_kind(&token.kind);
-    match stack.top() {
-        Some(Frame::Item(ItemFrame::Module)) => {
-            if word == Word::Semicolon {
+    match word {
+        Word::Semicolon => match stack.top() {
+            Some(Frame::Item(ItemFrame::Module)) => {
                 and_from(pieces, role, Semi::Written)?;
-                return Ok(Control::Statement);
+                Ok(Control::Statement)
             }
-            if may_miss(word, token.line_before) {
-                and_from(pieces, role, Semi::Missing)?;
-                return begin(stack, pieces, token);
+            _ => Ok(Control::Fail),
+        },
+        _ => {
+            if !may_miss(word, token.line_before) {
+                return Ok(Control::Fail);
             }
-            Ok(Control::Fail)
+            match stack.top() {
+                Some(Frame::Item(ItemFrame::Module)) => {
+                    and_from(pieces, role, Semi::Missing)?;
+                    begin(stack, pieces, token)
+                }
+                _ => Ok(Control::Fail),
+            }
         }
-        _ => Ok(Control::Fail),
     }
 }
 
@@ -291,19 +312,26 @@ fn export_names(
     ensures { IfOk result (λ c. Shows (n.export_names (h.frames stack.old (rest pieces.old)) false (pairs_in (first pieces.old)) token.now) c stack.new pieces.new) }
 {
     let word = word_of_kind(&token.kind);
-    match stack.top() {
-        Some(Frame::Item(ItemFrame::Module)) => {
-            if word == Word::Semicolon {
+    match word {
+        Word::Semicolon => match stack.top() {
+            Some(Frame::Item(ItemFrame::Module)) => {
                 pieces.and_export_names(Semi::Written)?;
-                return Ok(Control::Statement);
+                Ok(Control::Statement)
             }
-            if may_miss(word, token.line_before) {
-                pieces.and_export_names(Semi::Missing)?;
-                return begin(stack, pieces, token);
+            _ => Ok(Control::Fail),
+        },
+        _ => {
+            if !may_miss(word, token.line_before) {
+                return Ok(Control::Fail);
             }
-            Ok(Control::Fail)
+            match stack.top() {
+                Some(Frame::Item(ItemFrame::Module)) => {
+                    pieces.and_export_names(Semi::Missing)?;
+                    begin(stack, pieces, token)
+                }
+                _ => Ok(Control::Fail),
+            }
         }
-        _ => Ok(Control::Fail),
     }
 }
 

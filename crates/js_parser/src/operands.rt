@@ -48,10 +48,7 @@ fn head_where(stack: &Stack<Frame>, pieces: &Stack<Piece>, at: u32) -> Control
 }
 
 // A `)` behind a comma that is in parentheses ends a list of names.
-fn close_names(
-    stack: &mut Stack<Frame>,
-    pieces: &mut Stack<Piece>,
-) -> Result<Control, AllocError>
+fn close_names(stack: &mut Stack<Frame>, pieces: &mut Stack<Piece>) -> Result<Control, AllocError>
     ensures { IfOk result (λ c. Shows (b.close_paren (f.Expression (x.Infix i.Comma (part_in (first pieces.old))) ∷ h.frames stack.old (rest pieces.old))) c stack.new pieces.new) }
 {
     match stack.pop() {
@@ -67,10 +64,7 @@ fn close_names(
 }
 
 // A `)` in place of an operand: behind `(`, or behind a comma.
-fn close_paren(
-    stack: &mut Stack<Frame>,
-    pieces: &mut Stack<Piece>,
-) -> Result<Control, AllocError>
+fn close_paren(stack: &mut Stack<Frame>, pieces: &mut Stack<Piece>) -> Result<Control, AllocError>
     ensures { IfOk result (λ c. Shows (b.close_paren (h.frames stack.old pieces.old)) c stack.new pieces.new) }
 {
     match stack.pop() {
@@ -78,9 +72,13 @@ fn close_paren(
             pieces.no_names()?;
             Ok(head_where(stack, pieces, at))
         }
-        Some(Frame::Expression(ExpressionFrame::Infix {
-            operator: Infix::Comma,
-        })) => close_names(stack, pieces),
+        Some(
+            Frame::Expression(
+                ExpressionFrame::Infix {
+                    operator: Infix::Comma,
+                },
+            ),
+        ) => close_names(stack, pieces),
         Some(Frame::Expression(ExpressionFrame::Arguments { callee })) => {
             called(pieces, callee)?;
             Ok(Control::Read)
@@ -90,10 +88,7 @@ fn close_paren(
 }
 
 // A `]` in place of an operand.
-fn close_bracket(
-    stack: &mut Stack<Frame>,
-    pieces: &mut Stack<Piece>,
-) -> Result<Control, AllocError>
+fn close_bracket(stack: &mut Stack<Frame>, pieces: &mut Stack<Piece>) -> Result<Control, AllocError>
     ensures { IfOk result (λ c. Shows (b.close_bracket (h.frames stack.old pieces.old)) c stack.new pieces.new) }
 {
     match stack.pop() {
@@ -148,11 +143,7 @@ fn opened(stack: &mut Stack<Frame>, frame: ExpressionFrame) -> Result<Control, A
 }
 
 // An expression that is one token, and no name.
-fn read_literal(
-    pieces: &mut Stack<Piece>,
-    literal: Literal,
-    at: u32,
-) -> Result<Control, AllocError>
+fn read_literal(pieces: &mut Stack<Piece>, literal: Literal, at: u32) -> Result<Control, AllocError>
     ensures { IfOk result (λ c. (c ≡ cc.Read) × (pieces.new ≡ v.Part (p.literal literal at) ∷ pieces.old)) }
 {
     pieces.literal(literal, at)?;

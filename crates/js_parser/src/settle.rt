@@ -31,9 +31,7 @@ fn close_form(
     match frame {
         Frame::Expression(frame) => close_expression(stack, pieces, frame, token),
         Frame::Member(frame) => Ok(Closed::Done(end_in_member(stack, pieces, frame, token)?)),
-        Frame::Statement(frame) => Ok(Closed::Done(end_in_statement(
-            stack, pieces, frame, token,
-        )?)),
+        Frame::Statement(frame) => Ok(Closed::Done(end_in_statement(stack, pieces, frame, token)?)),
         Frame::Item(frame) => Ok(Closed::Done(end_in_item(stack, pieces, frame, token)?)),
     }
 }

@@ -35,4 +35,3 @@ abbrev pub list_of : Heading → Option (List Identifier)
 list_of (h.Name one) = Some (one ∷ [])
 list_of (h.Names names) = Some names
 list_of _ = None
-

@@ -26,7 +26,7 @@ use Rattle.parser_forms.specs.Parts as p
 
 -- an expression of which nothing is kept as an arrow's head
 abbrev pub standing : Sorted t.expression → Standing → Part
-standing of as = record { of = of; at = as.at; level = as.level; is_target = as.is_target; is_nullish = as.is_nullish; is_bare_new = as.is_bare_new; has_call = as.has_call; heading = h.Nothing }
+standing of known = record { of = of; at = known.at; level = known.level; is_target = known.is_target; is_nullish = known.is_nullish; is_bare_new = known.is_bare_new; has_call = known.has_call; heading = h.Nothing }
 
 -- what has nothing in it
 abbrev pub empty : Empty → Piece

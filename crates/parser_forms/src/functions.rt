@@ -162,7 +162,12 @@ impl Stack<Piece> {
     }
 
     /// The list of items, and behind it `export default`, at a place, before a class.
-    pub fn and_default_class(&mut self, place: u32, at: u32, derived: bool) -> Result<(), AllocError>
+    pub fn and_default_class(
+        &mut self,
+        place: u32,
+        at: u32,
+        derived: bool,
+    ) -> Result<(), AllocError>
         ensures { IfOk result (λ done. self.new ≡ v.Items (and_then (items_in (second (under_parent derived (rest self.old)))) (p.default_class place (p.class at (given_name (first (under_parent derived (rest self.old)))) (parent_in derived (rest self.old)) (members_in (first self.old))))) ∷ rest (rest (under_parent derived (rest self.old)))) }
     {
         let Kept { tree, nesting } = self.take_class(at, derived)?;

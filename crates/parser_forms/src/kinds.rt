@@ -84,4 +84,3 @@ pub fn left_level(operator: BinaryOperator) -> u8
         _ => operator_level(operator),
     }
 }
-

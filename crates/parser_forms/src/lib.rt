@@ -12,20 +12,18 @@ mod names;
 mod operands;
 mod operators;
 mod parts;
-mod statements;
-mod texts;
-mod trees;
 mod pieces;
 mod readers;
 mod shapes;
 mod stack;
+mod statements;
+mod texts;
+mod trees;
 
 pub use keeping::raise;
 pub use kinds::{Bare, Infix, Prefix, infix_level, left_level, operator_level};
-pub use parts::{Heading, KeyPart, Kept, Literal, Part};
-pub use texts::{copy_of, is_text};
-pub use trees::{
-    Cases, Declarators, Expressions, HeadTree, Items, KeyTree, Members, Statements,
-};
+pub use parts::{Heading, Kept, KeyPart, Literal, Part};
 pub use pieces::{Piece, Pieces};
 pub use stack::Stack;
+pub use texts::{copy_of, is_text};
+pub use trees::{Cases, Declarators, Expressions, HeadTree, Items, KeyTree, Members, Statements};

@@ -13,7 +13,7 @@ ghost use Rattle.parser_forms.specs.declared.pieces.Piece.TheVariants as v;
 
 use crate::functions::function;
 use crate::keeping::{both, box_beside, flat, push};
-use crate::parts::{KeyPart, Kept};
+use crate::parts::{Kept, KeyPart};
 use crate::pieces::Piece;
 use crate::shapes::Empty;
 use crate::stack::Stack;
@@ -59,12 +59,7 @@ fn plain_kind(fixed: bool, constructor: bool, derived: bool) -> FunctionKind
 }
 
 // The kind of the function of a member of a class or an object literal.
-fn own_kind(
-    kind: MemberKind,
-    fixed: bool,
-    derived: Option<bool>,
-    constructor: bool,
-) -> FunctionKind
+fn own_kind(kind: MemberKind, fixed: bool, derived: Option<bool>, constructor: bool) -> FunctionKind
     ensures { result ≡ shapes.own_kind kind fixed derived constructor }
 {
     match derived {
@@ -184,14 +179,25 @@ impl Stack<Piece> {
     }
 
     /// The list of members of an object literal, and a method or an accessor behind it.
-    pub fn and_object_method(&mut self, at: u32, fixed: bool, kind: MemberKind) -> Result<(), AllocError>
+    pub fn and_object_method(
+        &mut self,
+        at: u32,
+        fixed: bool,
+        kind: MemberKind,
+    ) -> Result<(), AllocError>
         ensures { IfOk result (λ done. self.new ≡ v.Members (and_then (members_in (fourth self.old)) (p.function_member at fixed kind (key_in (third self.old)) (p.function at None (p.method_kind kind true false false) (names_in (second self.old)) (statements_in (first self.old))))) ∷ rest (rest (rest (rest self.old)))) }
     {
         self.and_method(at, fixed, kind, None)
     }
 
     /// The list of members of a class, which may be a derived one, and a method or an accessor behind it.
-    pub fn and_class_method(&mut self, at: u32, fixed: bool, kind: MemberKind, derived: bool) -> Result<(), AllocError>
+    pub fn and_class_method(
+        &mut self,
+        at: u32,
+        fixed: bool,
+        kind: MemberKind,
+        derived: bool,
+    ) -> Result<(), AllocError>
         ensures { IfOk result (λ done. self.new ≡ v.Members (and_then (members_in (fourth self.old)) (p.function_member at fixed kind (key_in (third self.old)) (p.function at None (p.method_kind kind fixed (key_in (third self.old)).is_constructor derived) (names_in (second self.old)) (statements_in (first self.old))))) ∷ rest (rest (rest (rest self.old)))) }
     {
         self.and_method(at, fixed, kind, Some(derived))

@@ -13,12 +13,12 @@ ghost use Rattle.parser_forms.specs.declared.pieces.Piece.TheVariants as v;
 use crate::keeping::{both, box_beside, counted, counted_box, lose, push};
 use crate::kinds::Prefix;
 use crate::parts::{Heading, Kept, Literal, Part};
+use crate::pieces::Piece;
 use crate::shapes::{Empty, Joining, Standing, Wrapping};
+use crate::stack::Stack;
 use crate::texts::copy_of;
 use crate::trees::Expressions;
 use es_model::{Expression, ExpressionForm, Identifier, TreeList};
-use crate::pieces::Piece;
-use crate::stack::Stack;
 use js_value::Units;
 use std::alloc::{AllocError, Global};
 
@@ -340,7 +340,11 @@ impl Stack<Piece> {
     }
 
     // An expression that is no head of an arrow.
-    pub(crate) fn put_part(&mut self, of: Kept<Expression>, standing: Standing) -> Result<(), AllocError>
+    pub(crate) fn put_part(
+        &mut self,
+        of: Kept<Expression>,
+        standing: Standing,
+    ) -> Result<(), AllocError>
         ensures { IfOk result (λ done. self.new ≡ v.Part (shapes.standing of standing) ∷ self.old) }
     {
         self.push(Piece::Part(Part {
@@ -357,7 +361,11 @@ impl Stack<Piece> {
 
     // A list of expressions, and one more behind it.
     #[tactic(auto, using(crate::proofs::ListLaws::listed_last))]
-    fn put_expressions(&mut self, list: Kept<Expressions>, last: Kept<Expression>) -> Result<(), AllocError>
+    fn put_expressions(
+        &mut self,
+        list: Kept<Expressions>,
+        last: Kept<Expression>,
+    ) -> Result<(), AllocError>
         ensures { IfOk result (λ done. self.new ≡ v.Expressions (and_then list last) ∷ self.old) }
     {
         let Kept { tree, nesting } = both(list, last);

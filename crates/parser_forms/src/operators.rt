@@ -12,8 +12,8 @@ ghost use Rattle.parser_forms.specs.declared.pieces.Piece.TheVariants as v;
 use crate::keeping::{both, counted, lose, push, three_boxes, two_boxes};
 use crate::kinds::{Infix, Prefix, infix_level};
 use crate::parts::{Heading, Kept, Part};
-use crate::shapes::{Joining, Standing, Wrapping};
 use crate::pieces::Piece;
+use crate::shapes::{Joining, Standing, Wrapping};
 use crate::stack::Stack;
 use es_model::{BinaryOperator, Expression, ExpressionForm, Identifier, TreeList};
 use std::alloc::{AllocError, Global};
@@ -232,7 +232,13 @@ impl Stack<Piece> {
         }
     }
 
-    fn put_comma(&mut self, at: u32, of: Kept<Expression>, first: Heading, last: Heading) -> Result<(), AllocError>
+    fn put_comma(
+        &mut self,
+        at: u32,
+        of: Kept<Expression>,
+        first: Heading,
+        last: Heading,
+    ) -> Result<(), AllocError>
         ensures { IfOk result (λ done. self.new ≡ v.Part (record { of = of; at = at; level = 1; is_target = false; is_nullish = false; is_bare_new = false; has_call = false; heading = p.listed_names first last }) ∷ self.old) }
     {
         match listed_names(self.alloc(), first, last) {

@@ -10,7 +10,7 @@ ghost use Rattle.parser_forms.specs.declared.pieces.Piece.TheVariants as v;
 
 use crate::keeping::{flat, lose, lose_piece};
 use crate::kinds::{Infix, left_level};
-use crate::parts::{Heading, KeyPart, Kept, Part};
+use crate::parts::{Heading, Kept, KeyPart, Part};
 use crate::shapes::{Empty, Standing};
 use crate::stack::Stack;
 use crate::trees::{Cases, Declarators, Expressions, HeadTree, Items, Members, Statements};

@@ -8,12 +8,12 @@ ghost use Rattle.parser_forms.specs.Kept.{around, optional};
 ghost use Rattle.parser_forms.specs.Pieces.{cases_in, declarators_in, expressions_in, first, given_expression, given_name, given_statements, head_in, items_in, key_in, members_in, name_in, names_in, pairs_in, part_in, rest, statement_in, statements_in, text_in, texts_in};
 
 use crate::keeping::{flat, lose_piece, option_beside};
-use crate::parts::{Heading, KeyPart, Kept, Part};
+use crate::parts::{Heading, Kept, KeyPart, Part};
 use crate::pieces::Piece;
 use crate::stack::Stack;
 use crate::trees::{
-    Cases, Declarators, Expressions, HeadTree, Items, Members, OptionalExpression, OptionalStatements,
-    Statements,
+    Cases, Declarators, Expressions, HeadTree, Items, Members, OptionalExpression,
+    OptionalStatements, Statements,
 };
 use es_model::{Expression, Identifier, Pair, Statement, TreeList};
 use js_value::Units;

@@ -189,7 +189,13 @@ impl Stack<Piece> {
         let first = both(self.take_head_tree(), test);
         let Kept { tree, nesting } = counted(both(both(first, step), body));
         let tree = match tree {
-            Some((((head, test), step), body)) => Some(for_tree(self.alloc(), head, test, step, body)?),
+            Some((((head, test), step), body)) => Some(for_tree(
+                self.alloc(),
+                head,
+                test,
+                step,
+                body,
+            )?),
             None => None,
         };
         self.push(Piece::Statement(Kept { tree, nesting }))

@@ -15,8 +15,8 @@ loop-token-preserved c =
     let st = held l.control l.stack l.pieces in
     record {
       same = l.invariant.same
-        ∙ ap (answer_from l.place st) (drop_more tokens i c.token-item.result c.loop-token-test.true)
-        ∙ ap (λ token. answer_from l.place st (token ∷ drop (i + 1) tokens)) (sym c.token-item.is)
-        ∙ goes_on l.place st c.token-item.result (drop (i + 1) tokens) c.in_ok-control.control c.step.new.stack c.step.new.pieces (iff_false c.has_failed.ensures c.if-has_failed.false) c.in_ok-control.ensures;
+          ∙ ap (answer_from l.place st) (drop_more tokens i c.token-item.result c.loop-token-test.true)
+          ∙ ap (λ token. answer_from l.place st (token ∷ drop (i + 1) tokens)) (sym c.token-item.is)
+          ∙ goes_on l.place st c.token-item.result (drop (i + 1) tokens) c.in_ok-control.control c.step.new.stack c.step.new.pieces (iff_false c.has_failed.ensures c.if-has_failed.false) c.in_ok-control.ensures;
       place = ap (λ n. n + 1) l.invariant.place;
     }
