@@ -16,6 +16,7 @@ mod ProgramRows
 mod PromiseRows
 pub mod Prototypes
 mod Samples
+mod ModuleGraphRows
 mod StoreRows
 pub mod TwoLedgers
 mod WellFormedRows
