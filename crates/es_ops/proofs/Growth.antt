@@ -193,7 +193,7 @@ run_grows_from c grow w (Turn p) s g = spent_grows w s.meter s (run c p) g (run_
 run_grows_from c grow w (Ask q k) s g = run_grows_from c grow w (k (reply q s.world)) s g
 run_grows_from c grow w (Do d k) s g = happened_grows w (perform d s.world) s (λ a. run c (k a)) (from (perform d s.world) (perform_grows d s.world)) g (λ a. run_grows_from c grow w (k a))
   where
-    from : {A : Type 0} (e : Event World A) → IfHappens e (λ a v. Grows s.world.heap v) → IfHappens e (λ a v. Grows w v.heap)
+    from : {A : Type 0} (e : Event World A) → IfHappens e (λ a v. Grows s.world.heap v.heap) → IfHappens e (λ a v. Grows w v.heap)
     from (Happens a v) h = grows_trans w s.world.heap v.heap g h
     from (Stops full) h = tt
 run_grows_from c grow w (Call f this vs n k) s g = returned_grows w (c f this vs n s) (λ v. run c (k v)) (grows_trans w s.world.heap _ g (grow f this vs n s)) (λ v. run_grows_from c grow w (k v))
