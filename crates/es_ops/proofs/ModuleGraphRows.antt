@@ -1,7 +1,7 @@
 -- Graphs of modules: orders of evaluation, what exports lead to, and the first faults.
 use Rattle.std.proofs.Common.{◌≡◌, ℕ, Bool, true, false, List, [], ◌∷◌, refl, codes}
 use Rattle.js_value.specs.Value.{Text}
-use Rattle.es_ops.specs.ModuleGraph.{ModuleRecord, ModuleImport, ModuleExport, LocalExport, IndirectExport, FoundModule, find_module, Binding, OfHost, NotExported, Circular, Print, Read, resolve_export, NoModule, NoExport, CircularExport, Plan, Faulty, plan}
+use Rattle.es_ops.specs.ModuleGraph.{ModuleRecord, ModuleImport, ModuleExport, LocalExport, IndirectExport, OfHost, ExportOf, NotExported, Circular, Print, Read, resolve_export, NoModule, NoExport, CircularExport, Plan, Faulty, plan}
 
 a : Text
 a = codes "a"
@@ -57,7 +57,7 @@ from_another_root : plan diamond c ≡ Plan (3 ∷ 2 ∷ [])
 unfolding diamond new_module asks a b c d main host x y
 from_another_root = refl
 
-through_another_module : resolve_export diamond b x ≡ Binding 3 4
+through_another_module : resolve_export diamond b x ≡ ExportOf 3 0
 unfolding diamond new_module asks a b c d main host x y
 through_another_module = refl
 
@@ -81,7 +81,7 @@ evaluated_ones_are_passed_over = (refl , refl)
 twice : List ModuleRecord
 twice = new_module lib [] [] (LocalExport x 0 ∷ []) ∷ new_module lib [] [] (LocalExport x 7 ∷ []) ∷ []
 
-first_of_one_name : (resolve_export twice lib x ≡ Binding 0 0) × (plan twice lib ≡ Plan (0 ∷ []))
+first_of_one_name : (resolve_export twice lib x ≡ ExportOf 0 0) × (plan twice lib ≡ Plan (0 ∷ []))
 unfolding twice new_module lib x
 first_of_one_name = (refl , refl)
 

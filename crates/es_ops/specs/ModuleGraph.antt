@@ -1,7 +1,7 @@
 -- The graph of modules: which module a request finds, which binding an export is (ECMA-262 16.2.1.6.3, ResolveExport),
 -- and in which order new modules are evaluated (16.2.1.5.3), or the first fault.
-use Rattle.std.specs.Prelude.{ℕ, zero, suc, Bool, true, false, not, ◌||◌, ◌==◌, cond, List, [], ◌∷◌, ◌++◌, map, length, sum_by, codes, Option, Some, None}
-use Rattle.std.specs.List.{list_any, find, filter_map, fold}
+use Rattle.std.specs.Prelude.{ℕ, zero, suc, Bool, true, false, not, ◌||◌, ◌==◌, cond, List, [], ◌∷◌, ◌++◌, length, sum_by, codes, Option, Some, None}
+use Rattle.std.specs.List.{list_any, filter_map, fold}
 use Rattle.js_value.specs.Value.{Text, same_text}
 
 -- ---- module records, as far as the graph sees them
@@ -15,10 +15,6 @@ pub record ModuleImport : Type 0 where
 pub data ModuleExport : Type 0 where
   LocalExport : (name : Text) → (binding : ℕ) → ModuleExport
   IndirectExport : (name request asked : Text) → ModuleExport
-
-abbrev pub export_name : ModuleExport → Text
-export_name (LocalExport name binding) = name
-export_name (IndirectExport name request asked) = name
 
 -- A module is new where it is neither evaluated nor preloaded.
 pub record ModuleRecord : Type 0 where
@@ -50,9 +46,10 @@ pub data HostFunction : Type 0 where
   Print : HostFunction
   Read : HostFunction
 
+-- An export of a module is told by its place among the exports of that module that are bindings of its own.
 pub data Resolution : Type 0 where
   OfHost : HostFunction → Resolution
-  Binding : (number binding : ℕ) → Resolution
+  ExportOf : (number place : ℕ) → Resolution
   NotExported : Resolution
   Circular : Resolution
 
@@ -61,16 +58,18 @@ host_export asked =
     cond (same_text asked (codes "print")) (OfHost Print)
     (cond (same_text asked (codes "read")) (OfHost Read) NotExported)
 
--- What an export leads to, where `resolves` answers for the modules that it is taken from.
-abbrev pub led_to : (resolves : (request asked : Text) → Resolution) → (number : ℕ) → Option ModuleExport → Resolution
-led_to resolves n None = NotExported
-led_to resolves n (Some (LocalExport name binding)) = Binding n binding
-led_to resolves n (Some (IndirectExport name request asked)) = resolves request asked
+-- The first export of that name, where `resolves` answers for the modules that exports are taken from.
+abbrev pub export_from : (resolves : (request asked : Text) → Resolution) → (number place : ℕ) → List ModuleExport → (asked : Text) → Resolution
+export_from resolves n place [] asked = NotExported
+export_from resolves n place (LocalExport name binding ∷ rest) asked =
+    cond (same_text asked name) (ExportOf n place) (export_from resolves n (suc place) rest asked)
+export_from resolves n place (IndirectExport name request wanted ∷ rest) asked =
+    cond (same_text asked name) (resolves request wanted) (export_from resolves n place rest asked)
 
 abbrev pub exported_by : (resolves : (request asked : Text) → Resolution) → Option FoundModule → (asked : Text) → Resolution
 exported_by resolves None asked = NotExported
 exported_by resolves (Some TheHost) asked = host_export asked
-exported_by resolves (Some (TheModule n m)) asked = led_to resolves n (find (λ e. same_text asked (export_name e)) m.exports)
+exported_by resolves (Some (TheModule n m)) asked = export_from resolves n 0 m.exports asked
 
 -- A chain of exports that has more links than there are exports comes back to itself.
 abbrev pub resolve_within : ℕ → List ModuleRecord → (request asked : Text) → Resolution
