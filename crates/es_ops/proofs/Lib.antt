@@ -17,6 +17,7 @@ mod ProgramRows
 mod PromiseRows
 pub mod Prototypes
 mod Samples
+mod BootRows
 mod ModuleGraphRows
 mod StoreRows
 pub mod TwoLedgers
