@@ -15,6 +15,7 @@ pub mod Others
 pub mod Orderly
 mod ProgramRows
 mod PromiseRows
+pub mod PropertiesKeep
 pub mod Prototypes
 mod Samples
 mod StoreRows
