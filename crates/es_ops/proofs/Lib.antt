@@ -17,6 +17,8 @@ mod ProgramRows
 mod PromiseRows
 pub mod PropertiesKeep
 pub mod Prototypes
+pub mod RunsKeep
+pub mod KindsLast
 mod Samples
 mod StoreRows
 pub mod TwoLedgers
