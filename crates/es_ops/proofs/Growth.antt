@@ -1,5 +1,5 @@
 -- No event makes a count fall, takes a name or a thing away, or changes a limit.
-use Rattle.std.proofs.Common.{◌≡◌, ℕ, zero, suc, ◌≤◌, Bool, true, false, cond, List, [], ◌∷◌, ◌++◌, length, arith, refl, sym, ap, ◌∙◌, append_assoc, append-nil, Option, Some, None, slice_get, length-append, length-set, le_refl}
+use Rattle.std.proofs.Common.{◌≡◌, ℕ, ◌≤◌, Bool, true, false, cond, List, [], ◌∷◌, ◌++◌, length, arith, refl, sym, ap, ◌∙◌, append_assoc, append-nil, Option, Some, None, slice_get, length-append, length-set, le_refl}
 use Rattle.js_value.specs.Value.{Value, Text}
 use Rattle.js_value.specs.Store.{Store, Thing, AnObject, ACell, AMark, ObjectRecord, Class, Promise, PromiseState, Pending, Fulfilled, Rejected, Ordinary, Array, ScriptFunction, BuiltInFunction, ResolveFunction, RejectFunction, Error, Reaction, frozen, size, object_in, cell_in, mark_in}
 use Rattle.js_value.specs.Job.{Job}
@@ -8,10 +8,11 @@ use Rattle.es_ops.specs.State.{Heap, World, State, plus, nothing, some_slots, so
 use Rattle.js_value.specs.declared.counts.Full.{Full}
 use Rattle.es_ops.specs.Ledger.{Event, Happens, Stops, charged, charged_unless, passed, written, with_thing, first_cost, with_name, name_added, name_cost, growth}
 use Rattle.es_ops.specs.InternalMethods.{Method, apply_method}
-use Rattle.es_ops.specs.Events.{reply, Deed, perform, Make, Apply, Attach, SetCell, SetMark, Settle, TakeReaction, AddReaction, Enqueue, Dequeue, AddRejection, RemoveRejection, MakeText, Write, Take, make, apply, attach, set_cell, set_mark, settle, take_reaction, add_reaction, enqueue, dequeue, apply_outcome, settle_class, take_reaction_class, react_class, dequeue_from, attached}
-use Rattle.es_ops.specs.Act.{Act, Give, Throw, Halt, Turn, Ask, Do, Call, Try, Completion, NormalCompletion, ThrowCompletion, Ran, Ends, Halts, Calls, with_world, spent, happened, returned, ended, run}
+use Rattle.es_ops.specs.Events.{Deed, perform, Make, Apply, Attach, SetCell, SetMark, Settle, TakeReaction, AddReaction, Enqueue, Dequeue, AddRejection, RemoveRejection, MakeText, Write, Take, make, apply, attach, set_cell, set_mark, settle, take_reaction, add_reaction, enqueue, dequeue, apply_outcome, settle_class, take_reaction_class, react_class, dequeue_from, attached}
+use Rattle.es_ops.specs.Act.{Act, Calls, run}
 use Rattle.es_ops.specs.Laws.{Grows, IfHappens, state_of}
 use Rattle.es_ops.proofs.OnHeap.{lifted}
+use Rattle.es_ops.proofs.RunsKeep.{run_keeps}
 
 grows_same : (w v : Heap) → length w.store ≤ length v.store → v.ledger.used ≡ w.ledger.used → v.names ≡ w.names → v.ledger.room ≡ w.ledger.room → v.realm ≡ w.realm → Grows w v
 grows_same w v things used names room realm = record {
@@ -166,38 +167,15 @@ perform_grows (Take line left) w = grows_refl w.heap
 abbrev pub CallsGrow : Calls → Type 0
 CallsGrow c = (f this : Value) (arguments : List Value) (target : Option Value) (s : State) → Grows s.world.heap (state_of (c f this arguments target s)).world.heap
 
-happened_grows : {A : Type 0} (w : Heap) (e : Event World A) (s : State) (f : A → State → Ran) → IfHappens e (λ a v. Grows w v.heap) → Grows w s.world.heap → ((a : A) (t : State) → Grows w t.world.heap → Grows w (state_of (f a t)).world.heap) → Grows w (state_of (happened e s f)).world.heap
-happened_grows w (Happens a v) s f g h next = next a (with_world s v) g
-happened_grows w (Stops full) s f g h next = h
-
-spent_grows : (w : Heap) (n : ℕ) (s : State) (f : State → Ran) → Grows w s.world.heap → ((t : State) → Grows w t.world.heap → Grows w (state_of (f t)).world.heap) → Grows w (state_of (spent n s f)).world.heap
-spent_grows w zero s f g next = g
-spent_grows w (suc n) s f g next = next (record s { meter = n }) g
-
-returned_grows : (w : Heap) (x : Ran) (f : Value → State → Ran) → Grows w (state_of x).world.heap → ((v : Value) (t : State) → Grows w t.world.heap → Grows w (state_of (f v t)).world.heap) → Grows w (state_of (returned x f)).world.heap
-returned_grows w (Ends (NormalCompletion v) s) f g next = next v s g
-returned_grows w (Ends (ThrowCompletion v) s) f g next = g
-returned_grows w (Halts stop s) f g next = g
-
-ended_grows : (w : Heap) (x : Ran) (f : Completion → State → Ran) → Grows w (state_of x).world.heap → ((c : Completion) (t : State) → Grows w t.world.heap → Grows w (state_of (f c t)).world.heap) → Grows w (state_of (ended x f)).world.heap
-ended_grows w (Ends c s) f g next = next c s g
-ended_grows w (Halts stop s) f g next = g
-
--- from any world that the state has grown from
-run_grows_from : (c : Calls) → CallsGrow c → (w : Heap) (p : Act) (s : State) → Grows w s.world.heap → Grows w (state_of (run c p s)).world.heap
-unfolding run
-run_grows_from c grow w (Give v) s g = g
-run_grows_from c grow w (Throw v) s g = g
-run_grows_from c grow w (Halt stop) s g = g
-run_grows_from c grow w (Turn p) s g = spent_grows w s.meter s (run c p) g (run_grows_from c grow w p)
-run_grows_from c grow w (Ask q k) s g = run_grows_from c grow w (k (reply q s.world)) s g
-run_grows_from c grow w (Do d k) s g = happened_grows w (perform d s.world) s (λ a. run c (k a)) (from (perform d s.world) (perform_grows d s.world)) g (λ a. run_grows_from c grow w (k a))
+-- a deed on a world that has grown from a heap
+deed_grows : (h : Heap) (d : Deed) (w : World) → Grows h w.heap → IfHappens (perform d w) (λ a v. Grows h v.heap)
+deed_grows h d w g = by_event (perform d w) (perform_grows d w)
   where
-    from : {A : Type 0} (e : Event World A) → IfHappens e (λ a v. Grows s.world.heap v.heap) → IfHappens e (λ a v. Grows w v.heap)
-    from (Happens a v) h = grows_trans w s.world.heap v.heap g h
-    from (Stops full) h = tt
-run_grows_from c grow w (Call f this vs n k) s g = returned_grows w (c f this vs n s) (λ v. run c (k v)) (grows_trans w s.world.heap _ g (grow f this vs n s)) (λ v. run_grows_from c grow w (k v))
-run_grows_from c grow w (Try f this vs n k) s g = ended_grows w (c f this vs n s) (λ v. run c (k v)) (grows_trans w s.world.heap _ g (grow f this vs n s)) (λ v. run_grows_from c grow w (k v))
+    by_event : {A : Type 0} (e : Event World A) → IfHappens e (λ a v. Grows w.heap v.heap) → IfHappens e (λ a v. Grows h v.heap)
+    by_event (Happens a v) k = grows_trans h w.heap v.heap g k
+    by_event (Stops full) k = tt
 
 pub run_grows : (c : Calls) → CallsGrow c → (p : Act) (s : State) → Grows s.world.heap (state_of (run c p s)).world.heap
-run_grows c grow p s = run_grows_from c grow s.world.heap p s (grows_refl s.world.heap)
+run_grows c grow p s =
+    run_keeps (λ w. Grows s.world.heap w.heap) (deed_grows s.world.heap) c
+    (λ f this vs n t g. grows_trans s.world.heap t.world.heap _ g (grow f this vs n t)) p s (grows_refl s.world.heap)

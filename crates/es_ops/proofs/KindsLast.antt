@@ -8,15 +8,15 @@ use Rattle.js_value.specs.declared.counts.Full.{Full}
 use Rattle.es_ops.specs.State.{Heap, World, State, plus, nothing, some_slots, some_units}
 use Rattle.es_ops.specs.InternalMethods.{Method, DefineOwnProperty, Delete, PreventExtensions, SetPrototypeOf, Freeze, apply_method, prevent_extensions, freeze, set_prototype_of, same_prototype, on_chain, longest, fixed_class, refused, unchanged, wrote, Outcome}
 use Rattle.es_ops.specs.Ledger.{Event, Happens, Stops, charged, charged_unless, passed, written, with_thing, first_cost, with_name, name_added, name_cost, growth}
-use Rattle.es_ops.specs.Events.{Deed, perform, Make, Apply, Attach, SetCell, SetMark, Settle, TakeReaction, AddReaction, Enqueue, Dequeue, AddRejection, RemoveRejection, MakeText, Write, Take, make, apply, attach, set_cell, set_mark, settle, take_reaction, add_reaction, enqueue, dequeue, dequeue_from, apply_outcome, settle_class, take_reaction_class, react_class, attached, at_home, with_home, with_prototype, pointing_to, prototype_name}
+use Rattle.es_ops.specs.Events.{Deed, perform, Make, Apply, Attach, SetCell, SetMark, Settle, TakeReaction, AddReaction, Enqueue, Dequeue, AddRejection, RemoveRejection, MakeText, Write, Take, make, apply, set_cell, set_mark, settle, take_reaction, add_reaction, enqueue, dequeue, dequeue_from, apply_outcome, settle_class, take_reaction_class, react_class, attached, at_home, with_home, with_prototype, pointing_to, prototype_name}
 use Rattle.es_ops.specs.Act.{Act, Calls, run}
 use Rattle.es_ops.specs.Laws.{Grows, IfHappens, state_of}
-use Rattle.es_ops.specs.Kinds.{lasting, Kind, ObjectKind, CellKind, kind_of, kind_at}
+use Rattle.es_ops.specs.Kinds.{lasting, Kind, ObjectKind, kind_of, kind_at}
 use Rattle.es_ops.proofs.OnHeap.{lifted}
 use Rattle.es_ops.proofs.Growth.{perform_grows}
 use Rattle.es_ops.proofs.Others.{get-append}
 use Rattle.es_ops.proofs.PropertiesKeep.{property_keeps, defined_keeps, deleted_keeps}
-use Rattle.es_ops.proofs.RunsKeep.{CallsKeep, Keeps, run_keeps}
+use Rattle.es_ops.proofs.RunsKeep.{CallsKeep, run_keeps}
 
 -- ---- stores
 
