@@ -8,9 +8,9 @@ use Rattle.js_value.specs.Store.{Property, Content, Data, Accessor, Class, Ordin
 use Rattle.es_ops.specs.InternalMethods.{PropertyDescriptor, Outcome, refused, unchanged, wrote, validate_and_apply_property_descriptor, ordinary_define_own_property, new_property, applied, forbidden, has_fields, length_of_value, lowest_length, elements_below, lowered, set_length_to, length_set_by, array_set_length, raised, array_define_own_property, define_by_class, is_refused, define_own_property, ordinary_delete, delete_own_property}
 
 module _ (Has : ObjectRecord → Type 0) (IsOfArray : Type 0) (known : (o : ObjectRecord) → is_array o.class ≡ true → Has o → IsOfArray)
-         (elements : (o : ObjectRecord) (es : List (ℕ × Property)) → Has o → Has (record o { indexed = es }))
-         (names : (o : ObjectRecord) (es : List (Text × Property)) → Has o → Has (record o { named = es }))
-         (lengths : (o : ObjectRecord) (n : ℕ) (w : Bool) → IsOfArray → Has o → Has (record o { class = Array n w })) where
+    (elements : (o : ObjectRecord) (es : List (ℕ × Property)) → Has o → Has (record o { indexed = es }))
+    (names : (o : ObjectRecord) (es : List (Text × Property)) → Has o → Has (record o { named = es }))
+    (lengths : (o : ObjectRecord) (n : ℕ) (w : Bool) → IsOfArray → Has o → Has (record o { class = Array n w })) where
   abbrev Leaves : Outcome → Type 0
   Leaves out = IfSome out.written Has
 
