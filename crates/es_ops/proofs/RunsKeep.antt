@@ -18,11 +18,11 @@ module _ (P : World → Type 0) where
   happened_keeps (Happens a v) s f p h next = next a (with_world s v) h
   happened_keeps (Stops full) s f p h next = p
 
-  spent_keeps : (n : ℕ) (s : State) (f : State → Ran) → P s.world → ((t : State) → P t.world → Keeps (f t)) → Keeps (spent n s f)
+  pub spent_keeps : (n : ℕ) (s : State) (f : State → Ran) → P s.world → ((t : State) → P t.world → Keeps (f t)) → Keeps (spent n s f)
   spent_keeps zero s f p next = p
   spent_keeps (suc n) s f p next = next (record s { meter = n }) p
 
-  returned_keeps : (x : Ran) (f : Value → State → Ran) → Keeps x → ((v : Value) (t : State) → P t.world → Keeps (f v t)) → Keeps (returned x f)
+  pub returned_keeps : (x : Ran) (f : Value → State → Ran) → Keeps x → ((v : Value) (t : State) → P t.world → Keeps (f v t)) → Keeps (returned x f)
   returned_keeps (Ends (NormalCompletion v) s) f p next = next v s p
   returned_keeps (Ends (ThrowCompletion v) s) f p next = p
   returned_keeps (Halts stop s) f p next = p
