@@ -21,6 +21,7 @@ pub mod HostCalls
 pub mod ModuleGraph
 pub mod Boot
 pub mod Operate
+pub mod Kinds
 pub mod Laws
 pub mod Operations
 pub mod Related
