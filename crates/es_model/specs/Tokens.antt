@@ -88,16 +88,6 @@ signs =
     codes "%=" ∷ codes "**=" ∷ codes "<<=" ∷ codes ">>=" ∷ codes ">>>=" ∷ codes "&=" ∷ codes "|=" ∷ codes "^=" ∷
     codes "=>" ∷ []
 
--- the same texts in ascending order
-abbrev pub ascending_signs : List (List ℕ)
-ascending_signs =
-    codes "!" ∷ codes "!=" ∷ codes "!==" ∷ codes "%" ∷ codes "%=" ∷ codes "&" ∷ codes "&&" ∷ codes "&=" ∷ codes "(" ∷
-    codes ")" ∷ codes "*" ∷ codes "**" ∷ codes "**=" ∷ codes "*=" ∷ codes "+" ∷ codes "++" ∷ codes "+=" ∷ codes "," ∷
-    codes "-" ∷ codes "--" ∷ codes "-=" ∷ codes "." ∷ codes "/" ∷ codes "/=" ∷ codes ":" ∷ codes ";" ∷ codes "<" ∷
-    codes "<<" ∷ codes "<<=" ∷ codes "<=" ∷ codes "=" ∷ codes "==" ∷ codes "===" ∷ codes "=>" ∷ codes ">" ∷ codes ">=" ∷
-    codes ">>" ∷ codes ">>=" ∷ codes ">>>" ∷ codes ">>>=" ∷ codes "?" ∷ codes "??" ∷ codes "[" ∷ codes "]" ∷ codes "^" ∷
-    codes "^=" ∷ codes "{" ∷ codes "|" ∷ codes "|=" ∷ codes "||" ∷ codes "}" ∷ codes "~" ∷ []
-
 abbrev pub same_text : List ℕ → List ℕ → Bool
 same_text [] [] = true
 same_text [] (d ∷ b) = false
