@@ -41,7 +41,7 @@ and_in_nullish a c d from to h = cc (h.1.0)
 -- `a ?? c && d`
 and_behind_nullish : (a c d : Tree t.expression) (from to : Tokens) → Spells (t.Nullish a (t.And c d)) from to → ⊥
 unfolding Spells
-and_behind_nullish a c d from to h = omega (arith, h.2.2.1.0)
+and_behind_nullish a c d from to h = omega (arith, h.2.2.0)
 
 -- a comma form as an argument
 comma_as_argument : (callee a c : Tree t.expression) (from to : Tokens) → Spells (t.Call callee (t.more (t.Comma a c) t.none)) from to → ⊥
