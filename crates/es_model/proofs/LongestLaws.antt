@@ -8,8 +8,10 @@ use Rattle.es_model.specs.declared.faults.LexFault.{LexFault}
 use Rattle.es_model.specs.declared.faults.LexFault.TheVariants.{BadCharacter, OpenString, OpenComment, OpenTemplate, BadEscape, NumberForm, NumberTooLarge}
 use Rattle.es_model.specs.declared.token.TokenKind.{TokenKind}
 use Rattle.es_model.specs.declared.token.TokenKind.TheVariants as k
+use Rattle.es_model.specs.SyntaxLaws.{IsOneToken, IsLongest, LongestIn, EachLongest}
 use Rattle.es_model.specs.Tokens as s
-use Rattle.es_model.specs.Tokens.{Element, Between, Word, Wrong, Brace, Inside, Closes, Substitutes, Breaks, Escapes, Returns, Stands, width, after, string_from, template_from, element}
+use Rattle.es_model.specs.Tokens.{Element, Between, Word, Wrong, Brace, Inside, Closes, Substitutes, Breaks, Escapes, Returns, Stands, width, after, string_from, template_from, element, parts_of, braces_after}
+use Rattle.es_model.proofs.TokenLaws.{joins, joined_after}
 
 -- Characters that pass a test: as many of a front as of the whole text, at most.
 
@@ -181,18 +183,18 @@ read_by inside returns escapes stands = elim inside [ Closes ↦ Ok ([], true, 1
 
 -- a front of one character: it closes the template, or leaves it open
 template_alone : (begun at c : ℕ) (rest : List ℕ) → Ends 1 (template_from 0 begun at (c ∷ [])) (template_from 0 begun at (c ∷ rest))
-template_alone begun at c rest = by (c == 96) (c == 36) (c == 13) (c == 92)
+template_alone begun at c rest = by _ _ _ (c == 96) (c == 36) (c == 13) (c == 92)
   where
-    by : {x y z : Read} (quote dollar return backslash : Bool) →
+    by : (x y z : Read) (quote dollar return backslash : Bool) →
         Ends 1 (read_by (inside_by quote (dollar && false) return backslash) (Err (OpenTemplate begun)) (Err (BadEscape at)) (Err (OpenTemplate begun)))
         (read_by (inside_by quote (dollar && s.first_is (λ d. d == 123) rest) return backslash) x y z)
-    by true dollar return backslash = one_read 1 1
-    by false true true backslash = front_fails
-    by false true false true = front_fails
-    by false true false false = front_fails
-    by false false true backslash = front_fails
-    by false false false true = front_fails
-    by false false false false = front_fails
+    by x y z true dollar return backslash = one_read 1 1
+    by x y z false true true backslash = front_fails
+    by x y z false true false true = front_fails
+    by x y z false true false false = front_fails
+    by x y z false false true backslash = front_fails
+    by x y z false false false true = front_fails
+    by x y z false false false false = front_fails
 
 template_ends : (passed begun at : ℕ) (front rest : List ℕ) → Ends (length front) (template_from passed begun at front) (template_from passed begun at (front ++ rest))
 template_ends passed begun at [] rest = front_fails
@@ -340,3 +342,83 @@ template_within : (n : ℕ) (first : Bool) (r w : Read) → Ends n r w → Withi
 template_within n first r w front_fails = wrong_front
 template_within n first r w whole_fails = wrong_whole
 template_within n first r w (both_read m count more h) = tokens _ _ m count more h
+
+closing_within : (braces : List Brace) (at d : ℕ) (front rest : List ℕ) → Within (length (d ∷ front)) (s.closing_element braces at (d ∷ front)) (s.closing_element braces at (d ∷ front ++ rest))
+closing_within braces at d front rest = by (s.continued braces)
+  where
+    by : (o : Option ℕ) → Within (length (d ∷ front))
+        (elim o [ Some first ↦ s.read_template false (template_from 0 first (at + 1) (d ∷ front)) | None ↦ s.sign_element at (125 ∷ d ∷ front) ])
+        (elim o [ Some first ↦ s.read_template false (template_from 0 first (at + 1) (d ∷ front ++ rest)) | None ↦ s.sign_element at (125 ∷ d ∷ front ++ rest) ])
+    by (Some first) = template_within _ false _ _ (template_ends 0 first (at + 1) (d ∷ front) rest)
+    by None = sign_within at _ (125 ∷ d ∷ front) rest
+
+quoted_within : (braces : List Brace) (at c d : ℕ) (front rest : List ℕ) → Within (length (d ∷ front)) (s.quoted_element braces at c (d ∷ front)) (s.quoted_element braces at c (d ∷ front ++ rest))
+quoted_within braces at c d front rest =
+    within_if ((c == 34) || (c == 39)) _ _ _ _ (string_within _ at _ _ (string_ends c 0 at (at + 1) (d ∷ front) rest))
+    (within_if (c == 96) _ _ _ _ (template_within _ true _ _ (template_ends 0 at (at + 1) (d ∷ front) rest))
+     (within_if (c == 125) _ _ _ _ (closing_within braces at d front rest) (sign_within at _ (c ∷ d ∷ front) rest)))
+
+word_within : (braces : List Brace) (at c d : ℕ) (front rest : List ℕ) → Within (length (d ∷ front)) (s.word_element braces at c (d ∷ front)) (s.word_element braces at c (d ∷ front ++ rest))
+word_within braces at c d front rest =
+    within_if (s.is_name_start c) _ _ _ _ (name_within _ c (d ∷ front) rest)
+    (within_if (s.is_digit c) _ _ _ _ (number_within at c (d ∷ front) rest)
+     (within_if ((c == 46) && s.is_digit d) _ _ _ _ wrong_front (quoted_within braces at c d front rest)))
+
+block_within : (n at : ℕ) (front : List ℕ) (whole : Element) → Within n (s.block_comment at front) whole
+block_within n at front whole = by (s.comment_end front)
+  where
+    by : (o : Option ℕ) → Within n (elim o [ Some m ↦ Between (list_any s.is_line_break (take m front)) (suc m) | None ↦ Wrong (OpenComment at) ]) whole
+    by (Some m) = no_token
+    by None = wrong_front
+
+element_within : (braces : List Brace) (at c d : ℕ) (front rest : List ℕ) → Within (length (d ∷ front)) (element braces at c (d ∷ front)) (element braces at c (d ∷ front ++ rest))
+element_within braces at c d front rest =
+    within_if (s.is_blank c) _ _ _ _ no_token
+    (within_if (s.is_line_break c) _ _ _ _ no_token
+     (within_if (s.begins (codes "//") (c ∷ d ∷ front)) _ _ _ _ no_token
+      (within_if (s.begins (codes "/*") (c ∷ d ∷ front)) _ _ _ _ (block_within _ at front _) (word_within braces at c d front rest))))
+
+no_longer : (n : ℕ) (front whole : Element) (kind other : TokenKind) (more : ℕ) → Within n front whole → front ≡ Word kind n → whole ≡ Word other more → n ≤ more
+no_longer n front whole kind other more no_token e f = absurd (cc e)
+no_longer n front whole kind other more wrong_front e f = absurd (cc e)
+no_longer n front whole kind other more wrong_whole e f = absurd (cc f)
+no_longer n front whole kind other more (tokens _ _ m count size h) e f =
+    let a : count ≡ m = cc e in
+    let b : size ≡ more = cc f in
+    let c : m ≤ size = h a in
+    omega (arith, b, c)
+
+-- a token is the longest that begins at its place
+pub is_longest : (braces : List Brace) (at c : ℕ) (cs : List ℕ) (kind : TokenKind) (more : ℕ) → element braces at c cs ≡ Word kind more → IsLongest braces at c cs more
+is_longest braces at c cs kind more e [] rest same one = omega arith
+is_longest braces at c cs kind more e (d ∷ front) rest same one =
+    no_longer (length (d ∷ front)) (element braces at c (d ∷ front)) (element braces at c (d ∷ front ++ rest)) one.0 kind more (element_within braces at c d front rest) one.1 (ap (element braces at c) same ∙ e)
+
+-- each token among the parts of a text is
+
+longest_after : (passed : ℕ) (braces : List Brace) (at : ℕ) (text : List ℕ) → EachLongest braces (parts_of passed braces at text)
+longest_after passed braces at [] = ending_longest (s.innermost braces)
+  where
+    ending_longest : (o : Option ℕ) → EachLongest braces (record { at = at; element = elim o [ Some begun ↦ Wrong (OpenTemplate begun) | None ↦ Word k.End 0 ]; spelling = [] } ∷ [])
+    ending_longest (Some begun) = tt
+    ending_longest None = (tt, tt)
+longest_after (suc passed) braces at (c ∷ cs) = longest_after passed braces (at + width c) cs
+longest_after zero braces at (c ∷ cs) =
+    by (element braces at c cs) refl
+    (λ more. longest_after more braces (at + width c) cs)
+    (λ kind more. longest_after more (braces_after at kind braces) (at + width c) cs)
+  where
+    by : (e : Element) → element braces at c cs ≡ e → ((more : ℕ) → EachLongest braces (parts_of more braces (at + width c) cs)) → ((kind : TokenKind) (more : ℕ) → EachLongest (braces_after at kind braces) (parts_of more (braces_after at kind braces) (at + width c) cs)) →
+        EachLongest braces (elim e [
+          | Between line more ↦ record { at = at; element = Between line more; spelling = c ∷ take more cs } ∷ parts_of more braces (at + width c) cs
+          | Word kind more ↦ record { at = at; element = Word kind more; spelling = c ∷ take more cs } ∷ parts_of more (braces_after at kind braces) (at + width c) cs
+          | Wrong fault ↦ record { at = at; element = Wrong fault; spelling = c ∷ cs } ∷ []
+        ])
+    by (Between line more) e gap word = gap more
+    by (Word kind more) e gap word =
+        (subst (λ text. LongestIn braces at text more) (sym (joins c cs more _ (joined_after more (braces_after at kind braces) (at + width c) cs))) (is_longest braces at c cs kind more e), word kind more)
+    by (Wrong fault) e gap word = tt
+
+-- each token of a text is the longest that begins at its place
+pub each_longest : (text : List ℕ) → EachLongest [] (parts_of 0 [] 0 text)
+each_longest text = longest_after 0 [] 0 text
