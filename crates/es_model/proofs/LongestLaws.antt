@@ -1,6 +1,6 @@
 -- Each token is the longest that begins there: a longer front of what is left of a text is no token.
-use Rattle.std.proofs.Common.{◌≡◌, ℕ, zero, suc, ◌+◌, ◌-◌, ◌≤◌, nat_lt, nat_le, cond, max, Bool, true, false, not, ◌&&◌, ◌||◌, ◌==◌, List, [], ◌∷◌, ◌++◌, length, take, drop, take_while, codes, pos, Option, Some, None, Result, Ok, Err, refl, sym, ap, ◌∙◌, subst, arith}
-use Rattle.std.specs.List.{flat_map, list_any, list_all, prefix_len}
+use Rattle.std.proofs.Common.{◌≡◌, ℕ, zero, suc, ◌+◌, ◌-◌, ◌≤◌, nat_lt, nat_le, cond, Bool, true, false, not, ◌&&◌, ◌||◌, ◌==◌, List, [], ◌∷◌, ◌++◌, length, take, drop, take_while, codes, pos, Option, Some, None, Result, Ok, Err, refl, sym, ap, ◌∙◌, subst, arith}
+use Rattle.std.specs.List.{list_any, prefix_len}
 use Rattle.std.proofs.lemmas.Bool.Decides.{nat_tests}
 use Rattle.std.proofs.lemmas.List.Folds.{length-prefix_len}
 use Rattle.js_value.specs.Text.{utf16}
@@ -8,7 +8,7 @@ use Rattle.es_model.specs.declared.faults.LexFault.{LexFault}
 use Rattle.es_model.specs.declared.faults.LexFault.TheVariants.{BadCharacter, OpenString, OpenComment, OpenTemplate, BadEscape, NumberForm, NumberTooLarge}
 use Rattle.es_model.specs.declared.token.TokenKind.{TokenKind}
 use Rattle.es_model.specs.declared.token.TokenKind.TheVariants as k
-use Rattle.es_model.specs.SyntaxLaws.{IsOneToken, IsLongest, LongestIn, EachLongest}
+use Rattle.es_model.specs.SyntaxLaws.{IsLongest, LongestIn, EachLongest}
 use Rattle.es_model.specs.Tokens as s
 use Rattle.es_model.specs.Tokens.{Element, Between, Word, Wrong, Brace, Inside, Closes, Substitutes, Breaks, Escapes, Returns, Stands, width, after, string_from, template_from, element, parts_of, braces_after}
 use Rattle.es_model.proofs.TokenLaws.{joins, joined_after}
@@ -356,13 +356,13 @@ quoted_within : (braces : List Brace) (at c d : ℕ) (front rest : List ℕ) →
 quoted_within braces at c d front rest =
     within_if ((c == 34) || (c == 39)) _ _ _ _ (string_within _ at _ _ (string_ends c 0 at (at + 1) (d ∷ front) rest))
     (within_if (c == 96) _ _ _ _ (template_within _ true _ _ (template_ends 0 at (at + 1) (d ∷ front) rest))
-     (within_if (c == 125) _ _ _ _ (closing_within braces at d front rest) (sign_within at _ (c ∷ d ∷ front) rest)))
+    (within_if (c == 125) _ _ _ _ (closing_within braces at d front rest) (sign_within at _ (c ∷ d ∷ front) rest)))
 
 word_within : (braces : List Brace) (at c d : ℕ) (front rest : List ℕ) → Within (length (d ∷ front)) (s.word_element braces at c (d ∷ front)) (s.word_element braces at c (d ∷ front ++ rest))
 word_within braces at c d front rest =
     within_if (s.is_name_start c) _ _ _ _ (name_within _ c (d ∷ front) rest)
     (within_if (s.is_digit c) _ _ _ _ (number_within at c (d ∷ front) rest)
-     (within_if ((c == 46) && s.is_digit d) _ _ _ _ wrong_front (quoted_within braces at c d front rest)))
+    (within_if ((c == 46) && s.is_digit d) _ _ _ _ wrong_front (quoted_within braces at c d front rest)))
 
 block_within : (n at : ℕ) (front : List ℕ) (whole : Element) → Within n (s.block_comment at front) whole
 block_within n at front whole = by (s.comment_end front)
@@ -375,8 +375,8 @@ element_within : (braces : List Brace) (at c d : ℕ) (front rest : List ℕ) �
 element_within braces at c d front rest =
     within_if (s.is_blank c) _ _ _ _ no_token
     (within_if (s.is_line_break c) _ _ _ _ no_token
-     (within_if (s.begins (codes "//") (c ∷ d ∷ front)) _ _ _ _ no_token
-      (within_if (s.begins (codes "/*") (c ∷ d ∷ front)) _ _ _ _ (block_within _ at front _) (word_within braces at c d front rest))))
+    (within_if (s.begins (codes "//") (c ∷ d ∷ front)) _ _ _ _ no_token
+    (within_if (s.begins (codes "/*") (c ∷ d ∷ front)) _ _ _ _ (block_within _ at front _) (word_within braces at c d front rest))))
 
 no_longer : (n : ℕ) (front whole : Element) (kind other : TokenKind) (more : ℕ) → Within n front whole → front ≡ Word kind n → whole ≡ Word other more → n ≤ more
 no_longer n front whole kind other more no_token e f = absurd (cc e)

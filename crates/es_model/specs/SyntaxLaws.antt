@@ -7,7 +7,7 @@ use Rattle.es_model.specs.declared.place.Place.{Place}
 use Rattle.es_model.specs.declared.place.Place.TheVariants.{Local, Boxed, Outer, Import, Global, Unbound}
 use Rattle.es_model.specs.Tree as t
 use Rattle.es_model.specs.Tree.{Tree, Text}
-use Rattle.es_model.specs.Tokens.{Element, Between, Word, Wrong, Brace, Part, element, braces_after}
+use Rattle.es_model.specs.Tokens.{Between, Word, Wrong, Brace, Part, element, braces_after}
 use Rattle.es_model.specs.Readings.{same_kind, is_end, word}
 use Rattle.es_model.specs.Functions.{FunctionForm, Written, Generated}
 use Rattle.es_model.specs.Scopes.{Enclosing, Binding}
