@@ -3,12 +3,12 @@ use Rattle.std.proofs.Common.{◌≡◌, ℕ, zero, suc, ◌+◌, Bool, true, fa
 use Rattle.std.proofs.lemmas.Bool.Decides.{nat_tests}
 use Rattle.js_value.specs.Text.{utf16}
 use Rattle.es_model.specs.declared.faults.LexFault.{LexFault}
-use Rattle.es_model.specs.declared.faults.LexFault.TheVariants.{OpenString, OpenTemplate, BadEscape}
+use Rattle.es_model.specs.declared.faults.LexFault.TheVariants.{OpenString, BadEscape}
 use Rattle.es_model.specs.Tokens as s
 use Rattle.es_model.specs.Tokens.{Inside, Closes, Substitutes, Breaks, Escapes, Returns, Stands, width, after, string_from, template_from, escape}
-use Rattle.es_model.specs.Contents.{is_string_character, StringCharacters, NoCharacter, Character, EscapeSequence, is_template_character, TemplateCharacters, NoTemplateCharacter, TemplateCharacter, ReturnAndFeed, ReturnAlone, TemplateEscape, template_end}
+use Rattle.es_model.specs.Contents.{StringCharacters, NoCharacter, Character, EscapeSequence, TemplateCharacters, NoTemplateCharacter, TemplateCharacter, ReturnAndFeed, ReturnAlone, TemplateEscape, template_end}
 
-abbrev Read : Type 0
+abbrev pub Read : Type 0
 Read = Result (List ℕ × Bool × ℕ) LexFault
 
 same : (c d : ℕ) → (c == d) ≡ true → c ≡ d
@@ -128,12 +128,13 @@ string_back quote begun other _ _ _ (Character _ c text units tail stands more) 
     let h : StringReads quote begun (at + width c) text units rest = string_back quote begun other text units tail more rest e (at + width c) in
     (1 + h.0, string_step quote begun at c text Stands (string_stands (c == quote) ((c == 10) || (c == 13)) (c == 92) stands) ∙ ap (after (utf16 c) 1) h.1, drop_one h.0 c text ∙ h.2)
 string_back quote begun other _ _ _ (EscapeSequence _ count text one units tail escaped more) rest e at =
-    let h : StringReads quote begun (place_behind (at + 1) count text) (drop count text) units rest = string_back quote begun other (drop count text) units tail more rest e (place_behind (at + 1) count text) in
-    (1 + (count + h.0),
-     string_step quote begun at 92 text Escapes (ap (λ b. in_string_by b false true) other)
-     ∙ ap (string_escaped quote begun at text) escaped
-     ∙ ap (after one 1) (string_passes quote begun count (at + 1) text units h.0 h.1),
-     drop_one (count + h.0) 92 text ∙ drop_both count h.0 text ∙ h.2)
+    let h : StringReads quote begun (place_behind (at + 1) count text) (drop count text) units rest = string_back quote begun other (drop count text) units tail more rest e (place_behind (at + 1) count text) in (
+      1 + (count + h.0),
+      string_step quote begun at 92 text Escapes (ap (λ b. in_string_by b false true) other)
+          ∙ ap (string_escaped quote begun at text) escaped
+          ∙ ap (after one 1) (string_passes quote begun count (at + 1) text units h.0 h.1),
+      drop_one (count + h.0) 92 text ∙ drop_both count h.0 text ∙ h.2,
+    )
 
 -- A string of the productions, with a quote behind it, is read up to that quote; no quote is a backslash.
 pub string_reads : (quote begun at : ℕ) (text units rest : List ℕ) → (92 == quote) ≡ false → StringCharacters quote text units (quote ∷ rest) →
@@ -145,7 +146,8 @@ string_reads quote begun at text units rest other h = string_back quote begun ot
 abbrev InTemplate : List ℕ → List ℕ → Bool → List ℕ → Type 0
 InTemplate text units last rest = TemplateCharacters text units (template_end last rest)
 
-abbrev in_template_by : (quote substitution return backslash : Bool) → Inside
+-- what a character of a template is, by the tests of it
+abbrev pub in_template_by : (quote substitution return backslash : Bool) → Inside
 in_template_by quote substitution return backslash =
     elim quote [
       | true ↦ Closes
@@ -253,10 +255,11 @@ ending_read begun at false rest = (2, refl, refl)
 template_back : (begun : ℕ) (text units tail : List ℕ) → TemplateCharacters text units tail → (last : Bool) (rest : List ℕ) → tail ≡ template_end last rest → (at : ℕ) → TemplateReads begun at text units last rest
 template_back begun _ _ _ (NoTemplateCharacter text) last rest e at = subst (λ t. TemplateReads begun at t [] last rest) (sym e) (ending_read begun at last rest)
 template_back begun _ _ _ (TemplateCharacter c text units tail stands more) last rest e at =
-    let h : TemplateReads begun (at + width c) text units last rest = template_back begun text units tail more last rest e (at + width c) in
-    (1 + h.0,
-     template_step begun at c text Stands (template_stands (c == 96) ((c == 36) && s.first_is (λ d. d == 123) text) (c == 13) (c == 92) stands) ∙ ap (after (utf16 c) 1) h.1,
-     drop_one h.0 c text ∙ h.2)
+    let h : TemplateReads begun (at + width c) text units last rest = template_back begun text units tail more last rest e (at + width c) in (
+      1 + h.0,
+      template_step begun at c text Stands (template_stands (c == 96) ((c == 36) && s.first_is (λ d. d == 123) text) (c == 13) (c == 92) stands) ∙ ap (after (utf16 c) 1) h.1,
+      drop_one h.0 c text ∙ h.2,
+    )
 template_back begun _ _ _ (ReturnAndFeed text units tail more) last rest e at =
     let h : TemplateReads begun (at + 1 + width 10) text units last rest = template_back begun text units tail more last rest e (at + 1 + width 10) in
     (1 + (1 + h.0), ap (λ r. after (10 ∷ []) 1 (after [] 1 r)) h.1, drop_one (1 + h.0) 13 (10 ∷ text) ∙ drop_one h.0 10 text ∙ h.2)
@@ -264,12 +267,13 @@ template_back begun _ _ _ (ReturnAlone text units tail alone more) last rest e a
     let h : TemplateReads begun (at + 1) text units last rest = template_back begun text units tail more last rest e (at + 1) in
     (1 + h.0, ap (template_returns begun at text) alone ∙ ap (after (10 ∷ []) 1) h.1, drop_one h.0 13 text ∙ h.2)
 template_back begun _ _ _ (TemplateEscape count text one units tail escaped more) last rest e at =
-    let h : TemplateReads begun (place_behind (at + 1) count text) (drop count text) units last rest = template_back begun (drop count text) units tail more last rest e (place_behind (at + 1) count text) in
-    (1 + (count + h.0),
-     template_step begun at 92 text Escapes refl
-     ∙ ap (template_escaped begun at text) escaped
-     ∙ ap (after one 1) (template_passes begun count (at + 1) text units last h.0 h.1),
-     drop_one (count + h.0) 92 text ∙ drop_both count h.0 text ∙ h.2)
+    let h : TemplateReads begun (place_behind (at + 1) count text) (drop count text) units last rest = template_back begun (drop count text) units tail more last rest e (place_behind (at + 1) count text) in (
+      1 + (count + h.0),
+      template_step begun at 92 text Escapes refl
+          ∙ ap (template_escaped begun at text) escaped
+          ∙ ap (after one 1) (template_passes begun count (at + 1) text units last h.0 h.1),
+      drop_one (count + h.0) 92 text ∙ drop_both count h.0 text ∙ h.2,
+    )
 
 -- A piece of the productions, with what it ends with behind it, is read up to that.
 pub template_reads : (begun at : ℕ) (text units : List ℕ) (last : Bool) (rest : List ℕ) → TemplateCharacters text units (template_end last rest) →

@@ -1,5 +1,5 @@
 -- Each token is the longest that begins there: a longer front of what is left of a text is no token.
-use Rattle.std.proofs.Common.{◌≡◌, ℕ, zero, suc, ◌+◌, ◌-◌, ◌≤◌, nat_lt, nat_le, cond, Bool, true, false, not, ◌&&◌, ◌||◌, ◌==◌, List, [], ◌∷◌, ◌++◌, length, take, drop, take_while, codes, pos, Option, Some, None, Result, Ok, Err, refl, sym, ap, ◌∙◌, subst, arith}
+use Rattle.std.proofs.Common.{◌≡◌, ℕ, zero, suc, ◌+◌, ◌-◌, ◌≤◌, nat_lt, nat_le, cond, Bool, true, false, not, ◌&&◌, ◌||◌, ◌==◌, List, [], ◌∷◌, ◌++◌, length, take, drop, take_while, codes, pos, Option, Some, None, Ok, Err, refl, sym, ap, ◌∙◌, subst, arith}
 use Rattle.std.specs.List.{list_any, prefix_len}
 use Rattle.std.proofs.lemmas.Bool.Decides.{nat_tests}
 use Rattle.std.proofs.lemmas.List.Folds.{length-prefix_len}
@@ -11,6 +11,7 @@ use Rattle.es_model.specs.declared.token.TokenKind.TheVariants as k
 use Rattle.es_model.specs.SyntaxLaws.{IsLongest, LongestIn, EachLongest}
 use Rattle.es_model.specs.Tokens as s
 use Rattle.es_model.specs.Tokens.{Element, Between, Word, Wrong, Brace, Inside, Closes, Substitutes, Breaks, Escapes, Returns, Stands, width, after, string_from, template_from, element, parts_of, braces_after}
+use Rattle.es_model.proofs.ContentLaws.{Read, in_template_by}
 use Rattle.es_model.proofs.TokenLaws.{joins, joined_after}
 
 -- Characters that pass a test: as many of a front as of the whole text, at most.
@@ -107,9 +108,6 @@ escape_agrees (c ∷ front) rest =
 
 -- Strings and the pieces of templates: one that takes all of the front is no longer than that of the whole.
 
-abbrev Read : Type 0
-Read = Result (List ℕ × Bool × ℕ) LexFault
-
 data Ends : ℕ → Read → Read → Type 0 where
   front_fails : {n : ℕ} {fault : LexFault} {r : Read} → Ends n (Err fault) r
   whole_fails : {n : ℕ} {fault : LexFault} {r : Read} → Ends n r (Err fault)
@@ -161,23 +159,7 @@ string_ends quote zero begun at (c ∷ cs) rest =
     by Breaks escapes stands = front_fails
     by Returns escapes stands = front_fails
 
--- what a character of a template is, by the tests of it, and how the reading goes on
-abbrev inside_by : (quote substitution return backslash : Bool) → Inside
-inside_by quote substitution return backslash =
-    elim quote [
-      | true ↦ Closes
-      | false ↦
-          elim substitution [
-            | true ↦ Substitutes
-            | false ↦
-                elim return [
-                  | true ↦ Returns
-                  | false ↦
-                      elim backslash [ true ↦ Escapes | false ↦ Stands ]
-                ]
-          ]
-    ]
-
+-- how the reading of a template goes on
 abbrev read_by : Inside → (returns escapes stands : Read) → Read
 read_by inside returns escapes stands = elim inside [ Closes ↦ Ok ([], true, 1) | Substitutes ↦ Ok ([], false, 2) | Returns ↦ returns | Escapes ↦ escapes | _ ↦ stands ]
 
@@ -186,8 +168,8 @@ template_alone : (begun at c : ℕ) (rest : List ℕ) → Ends 1 (template_from 
 template_alone begun at c rest = by _ _ _ (c == 96) (c == 36) (c == 13) (c == 92)
   where
     by : (x y z : Read) (quote dollar return backslash : Bool) →
-        Ends 1 (read_by (inside_by quote (dollar && false) return backslash) (Err (OpenTemplate begun)) (Err (BadEscape at)) (Err (OpenTemplate begun)))
-        (read_by (inside_by quote (dollar && s.first_is (λ d. d == 123) rest) return backslash) x y z)
+        Ends 1 (read_by (in_template_by quote (dollar && false) return backslash) (Err (OpenTemplate begun)) (Err (BadEscape at)) (Err (OpenTemplate begun)))
+        (read_by (in_template_by quote (dollar && s.first_is (λ d. d == 123) rest) return backslash) x y z)
     by x y z true dollar return backslash = one_read 1 1
     by x y z false true true backslash = front_fails
     by x y z false true false true = front_fails
