@@ -1,6 +1,6 @@
 -- What a built-in function takes of its arguments (ECMA-262 10.3.3): those that are absent are undefined, and numbers, texts
 -- and keys come from primitives (own: es_ops' number_expected, text_expected and key_expected).
-use Rattle.std.specs.Prelude.{ℕ, zero, cond, ℤ, List, ◌∷◌, get_or}
+use Rattle.std.specs.Prelude.{ℕ, cond, ℤ, List, get_or}
 use Rattle.js_value.specs.Value.{Value, Undefined, Object}
 use Rattle.es_ops.specs.Messages.{NotAnObject, NotAFunction}
 use Rattle.es_ops.specs.Act.{Act}

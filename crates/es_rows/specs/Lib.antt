@@ -1,1 +1,11 @@
 pub mod Arguments
+pub mod Positions
+pub mod Table
+pub mod Texts
+pub mod String
+pub mod Object
+pub mod ArrayLikes
+pub mod ArrayCallbacks
+pub mod ArrayReads
+pub mod ArrayWrites
+pub mod Array
