@@ -1,2 +1,5 @@
 mod Samples
 mod ObjectRows
+mod FunctionRows
+mod NumberRows
+mod PromiseRows
