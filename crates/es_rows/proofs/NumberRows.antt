@@ -1,5 +1,6 @@
 -- Each function of Boolean, Number and Math, once on a plain call and once on its refusal.
 use Rattle.std.proofs.Common.{◌≡◌, ℕ, true, false, List, [], ◌∷◌, refl, Option, Some, None, pos, negsuc, codes}
+use Rattle.std.specs.Int.Count.{count_leading_zeros}
 use Rattle.js_value.specs.Value.{Value, Undefined, Null, Boolean, Number, String, Object, Text}
 use Rattle.js_value.specs.Store.{Thing}
 use Rattle.es_ops.specs.State.{some_units}
@@ -10,7 +11,7 @@ use Rattle.es_rows.specs.Math.{abs, clz32, imul, max, min, sign}
 use Rattle.es_rows.proofs.Samples.{Came, blank, called, came, Gave, refusal, used_after, computing}
 
 unfoldable numbers : Unit {0}
-unfolding computing boolean to_string number is_integer is_safe_integer parse_int number_to_string abs clz32 imul max min sign
+unfolding computing count_leading_zeros boolean to_string number is_integer is_safe_integer parse_int number_to_string abs clz32 imul max min sign
 numbers = tt
 
 abbrev one : Value
