@@ -7,6 +7,7 @@ pub mod Composition
 mod ConversionRows
 mod DescriptorRows
 pub mod FrozenThings
+pub mod OnHeap
 pub mod Growth
 pub mod OwnKeys
 mod LedgerRows
@@ -27,9 +28,11 @@ pub mod Acting
 pub mod ReadsRelated
 pub mod WritesRelated
 pub mod JobsRelated
+pub mod Diagonal
 pub mod Stand
 pub mod MoreNames
 pub mod RunsRelated
+pub mod RecordsRelated
 pub mod RepliesRelated
 pub mod WorldsRelated
 pub mod DeedsRelated
