@@ -1,0 +1,2 @@
+pub mod StringRows
+pub mod ArrayRows
