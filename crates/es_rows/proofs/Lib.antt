@@ -1,2 +1,4 @@
-pub mod StringRows
-pub mod ArrayRows
+mod Samples
+mod ObjectRows
+mod StringRows
+mod ArrayRows
