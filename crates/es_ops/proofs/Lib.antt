@@ -7,6 +7,7 @@ pub mod Composition
 mod ConversionRows
 mod DescriptorRows
 pub mod FrozenThings
+pub mod OnHeap
 pub mod Growth
 pub mod OwnKeys
 mod LedgerRows
