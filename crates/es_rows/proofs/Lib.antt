@@ -3,3 +3,5 @@ mod ObjectRows
 mod FunctionRows
 mod NumberRows
 mod PromiseRows
+mod StringRows
+mod ArrayRows
