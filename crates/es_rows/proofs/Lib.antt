@@ -1,3 +1,4 @@
+pub mod ArgumentsRelated
 mod Samples
 mod ObjectRows
 mod FunctionRows
