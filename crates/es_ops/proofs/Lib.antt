@@ -28,9 +28,11 @@ pub mod Acting
 pub mod ReadsRelated
 pub mod WritesRelated
 pub mod JobsRelated
+pub mod Diagonal
 pub mod Stand
 pub mod MoreNames
 pub mod RunsRelated
+pub mod RecordsRelated
 pub mod RepliesRelated
 pub mod WorldsRelated
 pub mod DeedsRelated

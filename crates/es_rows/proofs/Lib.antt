@@ -1,4 +1,7 @@
 mod Samples
 mod ObjectRows
+mod FunctionRows
+mod NumberRows
+mod PromiseRows
 mod StringRows
 mod ArrayRows
