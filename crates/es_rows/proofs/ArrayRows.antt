@@ -1,20 +1,20 @@
 -- The functions of Array and Array.prototype on small arrays: each on plain calls, with the turns that it takes, and on its refusals.
-use Rattle.std.proofs.Common.{◌≡◌, ℕ, suc, ◌-◌, Bool, true, false, cond, List, [], ◌∷◌, get_or, map, replicate, refl, Option, Some, None, pos, negsuc, codes, ◌==◌, slice_get}
+use Rattle.std.proofs.Common.{◌≡◌, ℕ, ◌-◌, Bool, true, false, cond, List, [], ◌∷◌, get_or, map, replicate, refl, Option, Some, None, pos, negsuc, codes, ◌==◌, slice_get}
 use Rattle.js_value.specs.Value.{Value, Undefined, Null, Boolean, Number, String, Object, Text}
-use Rattle.js_value.specs.Store.{Thing, AnObject, ObjectRecord, Class, Ordinary, Array, BuiltInFunction, Property, Content, Data, Accessor}
-use Rattle.js_value.specs.declared.counts.Room.{Room}
+use Rattle.js_value.specs.Store.{Thing, AnObject, Class, Array, BuiltInFunction, Property, Content, Data, Accessor}
 use Rattle.es_ops.specs.State.{State, some_slots}
 use Rattle.es_ops.specs.Messages.{Message, NumberOutOfRange, InvalidArrayLength, EmptyArray, NotAFunction, NotWritable, NotDeletable, NotAnObject, PrimitiveExpected, text_of_message}
 use Rattle.es_ops.specs.Errors.{error_record}
-use Rattle.es_ops.specs.Act.{Act, Ran, Ends, Halts, Calls, NormalCompletion, ThrowCompletion, run}
+use Rattle.es_ops.specs.Act.{Ran, Ends, Calls, NormalCompletion, ThrowCompletion, run}
 use Rattle.es_rows.specs.Positions.{clamped_position, relative_position, count_expected}
 use Rattle.es_rows.specs.ArrayLikes.{length_of_array_like, length_in_range, array_create, is_array_value}
 use Rattle.es_rows.specs.ArrayCallbacks.{every, some, for_each, filter, map as array_map, find, find_index, reduce}
 use Rattle.es_rows.specs.ArrayReads.{concat, includes, index_of, join, slice}
 use Rattle.es_rows.specs.ArrayWrites.{fill, pop, push, reverse, shift, splice, unshift}
-use Rattle.es_rows.specs.Array.{array, is_array, to_string, array_row}
-use Rattle.es_rows.specs.Object.{object_row}
-use Rattle.es_ops.proofs.Samples.{plain, ordinary, array_of, function, world_of, state_in, came, Came, Gave, thing_after, used_after, computing}
+use Rattle.es_rows.specs.Array.{array, is_array, to_string}
+use Rattle.es_rows.specs.Object.{to_string as object_to_string}
+use Rattle.es_rows.specs.BuiltIns.{row}
+use Rattle.es_rows.proofs.Samples.{plain, fixed, ordinary, an_object, array_of, function, state_of, came, Came, Gave, Threw, thing_after, used_after, meter_after, computing}
 
 number : ℕ → Value
 number n = Number (pos n)
@@ -43,27 +43,24 @@ thing_result (Some (AnObject o)) this arguments s = class_result o.class this ar
 thing_result thing this arguments s = Ends (NormalCompletion Undefined) s
 
 calls : Calls
-calls (Object f) this arguments target s = thing_result (slice_get s.world.store f) this arguments s
+calls (Object f) this arguments target s = thing_result (slice_get s.world.heap.store f) this arguments s
 calls f this arguments target s = Ends (NormalCompletion Undefined) s
 
 -- ---- things: 13 is an array [1, "b", , 0]; 14 to 19 are functions; 20 is an object with two items; 21 is an array of one item
 -- that can't change; 22 is an object whose length is undefined, 23 one whose length is an object; 24 is an array of three absent items
-
-fixed : Value → Property
-fixed v = record { content = Data v false; enumerable = true; configurable = false }
 
 length_of : Value → List (Text × Property)
 length_of v = (codes "length", plain v) ∷ []
 
 things : List Thing
 things =
-    AnObject (array_of ((0, plain (number 1)) ∷ (1, plain (text (codes "b"))) ∷ (3, plain (number 0)) ∷ []) 4 true) ∷
-    AnObject (function 0) ∷ AnObject (function 1) ∷ AnObject (function 2) ∷ AnObject (function 8) ∷ AnObject (function 9) ∷ AnObject (function 10) ∷
+    array_of ((0, plain (number 1)) ∷ (1, plain (text (codes "b"))) ∷ (3, plain (number 0)) ∷ []) 4 ∷
+    function 0 ∷ function 1 ∷ function 2 ∷ function 8 ∷ function 9 ∷ function 10 ∷
     AnObject (record (ordinary None (length_of (number 2))) { indexed = (0, plain (text (codes "x"))) ∷ (1, plain (text (codes "y"))) ∷ [] }) ∷
-    AnObject (array_of ((0, fixed (number 7)) ∷ []) 1 false) ∷
-    AnObject (ordinary None []) ∷
-    AnObject (ordinary None (length_of (Object 13))) ∷
-    AnObject (array_of [] 3 true) ∷
+    AnObject (record (ordinary None []) { class = Array 1 false; indexed = (0, fixed (number 7)) ∷ [] }) ∷
+    an_object [] ∷
+    an_object (length_of (Object 13)) ∷
+    array_of [] 3 ∷
     []
 
 -- what is made first
@@ -71,7 +68,7 @@ made : ℕ
 made = 25
 
 ran : ℕ → Value → List Value → Ran
-ran row this arguments = run calls (array_row row 14 None this arguments) (state_in (world_of things))
+ran n this arguments = run calls (row n 14 None this arguments) (state_of things)
 
 result : ℕ → Value → List Value → Came
 result row this arguments = came (ran row this arguments)
@@ -94,12 +91,8 @@ items_of thing = (0, [])
 after : ℕ → Value → List Value → (thing : ℕ) → ℕ × List (ℕ × Value)
 after row this arguments n = items_of (thing_after (ran row this arguments) n)
 
-turns_of : Ran → ℕ
-turns_of (Ends c s) = 100 - s.meter
-turns_of (Halts stop s) = 100 - s.meter
-
 turns : ℕ → Value → List Value → ℕ
-turns row this arguments = turns_of (ran row this arguments)
+turns row this arguments = 100 - meter_after (ran row this arguments)
 
 thrown : ℕ → Value → List Value → Option Thing
 thrown row this arguments = thing_after (ran row this arguments) made
@@ -114,7 +107,7 @@ type_error : Message → Option Thing
 type_error m = error_of 6 m
 
 unfoldable arrays_computing : Unit {0}
-unfolding computing number text is_undefined result_of class_result thing_result calls fixed length_of things made ran result value_of length_in items_of after turns_of turns thrown error_of range_error type_error clamped_position relative_position count_expected length_of_array_like length_in_range array_create is_array_value every some for_each filter array_map find find_index reduce concat includes index_of join slice fill pop push reverse shift splice unshift array is_array to_string array_row object_row
+unfolding computing number text is_undefined result_of class_result thing_result calls length_of things made ran result value_of length_in items_of after turns thrown error_of range_error type_error clamped_position relative_position count_expected length_of_array_like length_in_range array_create is_array_value every some for_each filter array_map find find_index reduce concat includes index_of join slice fill pop push reverse shift splice unshift array is_array to_string object_to_string
 arrays_computing = tt
 
 -- ---- the constructor
@@ -246,7 +239,7 @@ not_callable_costs : used_after (ran 82 (Object 13) (Undefined ∷ [])) ≡ some
 unfolding arrays_computing
 not_callable_costs = refl
 
-callback_throws : map (λ row. result row (Object 13) (Object 18 ∷ [])) callbacks ≡ replicate 8 (came (Ends (ThrowCompletion (number 9)) (state_in (world_of []))))
+callback_throws : map (λ row. result row (Object 13) (Object 18 ∷ [])) callbacks ≡ replicate 8 (Threw (number 9))
 unfolding arrays_computing callbacks
 callback_throws = refl
 

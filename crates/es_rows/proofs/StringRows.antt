@@ -1,35 +1,35 @@
 -- The functions of String and String.prototype on small values: each once and more on a plain call, and on its refusals.
-use Rattle.std.proofs.Common.{◌≡◌, ℕ, true, false, suc, List, [], ◌∷◌, length, map, replicate, refl, Option, Some, None, pos, negsuc, codes}
+use Rattle.std.proofs.Common.{◌≡◌, ℕ, true, false, suc, List, [], ◌∷◌, length, map, replicate, refl, Option, Some, pos, negsuc, codes}
 use Rattle.js_value.specs.Value.{Value, Undefined, Null, Boolean, Number, String, Object, Text}
-use Rattle.js_value.specs.Store.{Thing, AnObject}
+use Rattle.js_value.specs.Store.{Thing, AnObject, Array}
 use Rattle.js_value.specs.declared.counts.Room.{Room}
 use Rattle.es_ops.specs.State.{some_units}
 use Rattle.es_ops.specs.Messages.{Message, NumberOutOfRange, StringTooLong, InvalidArgument, NoProperties, PrimitiveExpected, WrongReceiver, text_of_message}
 use Rattle.es_ops.specs.Errors.{error_record}
 use Rattle.es_rows.specs.Positions.{clamped_position, relative_position, count_expected}
-use Rattle.es_rows.specs.String.{string, from_char_code, this_text, char_at, char_code_at, code_point_at, ends_with, includes, index_of, starts_with, pad_end, pad_start, repeat, slice, substring_between, split, trim, to_string, string_row}
-use Rattle.es_ops.proofs.Samples.{plain, ordinary, array_of, runs, came, Came, Gave, thing_after, used_after, computing}
+use Rattle.es_rows.specs.String.{string, from_char_code, this_text, char_at, char_code_at, code_point_at, ends_with, includes, index_of, starts_with, pad_end, pad_start, repeat, slice, substring_between, split, trim, to_string}
+use Rattle.es_rows.proofs.Samples.{plain, an_object, called, came, Came, Gave, thing_after, used_after, computing}
 
 -- 13 is an object; what is made stands at 14
 things : List Thing
-things = AnObject (ordinary None []) ∷ []
+things = an_object [] ∷ []
 
 number : ℕ → Value
 number n = Number (pos n)
 
 -- rows that name this compute through the functions of String
 unfoldable strings_computing : Unit {0}
-unfolding computing things number clamped_position relative_position count_expected string from_char_code this_text char_at char_code_at code_point_at ends_with includes index_of starts_with pad_end pad_start repeat slice substring_between split trim to_string string_row
+unfolding computing things number clamped_position relative_position count_expected string from_char_code this_text char_at char_code_at code_point_at ends_with includes index_of starts_with pad_end pad_start repeat slice substring_between split trim to_string
 strings_computing = tt
 
 result : ℕ → Value → List Value → Came
-result row this arguments = came (runs (string_row row 13 None this arguments) things)
+result row this arguments = came (called things row this arguments)
 
 made : ℕ → Value → List Value → Option Thing
-made row this arguments = thing_after (runs (string_row row 13 None this arguments) things) 14
+made row this arguments = thing_after (called things row this arguments) 14
 
 used : ℕ → Value → List Value → Room
-used row this arguments = used_after (runs (string_row row 13 None this arguments) things)
+used row this arguments = used_after (called things row this arguments)
 
 gave_text : Text → Came
 gave_text t = Gave (String t)
@@ -181,7 +181,7 @@ pieces : Text → List Value → Option Thing
 pieces t arguments = made 65 (String t) arguments
 
 array_of_texts : List Text → Option Thing
-array_of_texts ts = Some (AnObject (record (array_of (map (λ e. (e.0, plain e.1)) (elements 0 ts)) (length ts) true) { prototype = Some 12 }))
+array_of_texts ts = Some (AnObject (record { class = Array (length ts) true; prototype = Some 12; extensible = true; indexed = map (λ e. (e.0, plain e.1)) (elements 0 ts); named = [] }))
 
 pieces_between_commas : pieces (codes "a,b,,c") (of (codes ",") ∷ []) ∷ pieces (codes "a,b,,c") (of (codes ",") ∷ number 2 ∷ []) ∷ pieces (codes "aXYbXY") (of (codes "XY") ∷ Number (negsuc 0) ∷ []) ∷ pieces [] (of (codes ",") ∷ []) ∷ []
     ≡ map array_of_texts ((codes "a" ∷ codes "b" ∷ [] ∷ codes "c" ∷ []) ∷ (codes "a" ∷ codes "b" ∷ []) ∷ (codes "a" ∷ codes "b" ∷ [] ∷ []) ∷ ([] ∷ []) ∷ [])
