@@ -1,4 +1,6 @@
 pub mod ArgumentsRelated
+pub mod KeysRelated
+pub mod ObjectsRelated
 mod Samples
 mod ObjectRows
 mod FunctionRows
