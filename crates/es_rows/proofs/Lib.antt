@@ -5,3 +5,5 @@ mod NumberRows
 mod PromiseRows
 mod StringRows
 mod ArrayRows
+pub mod ArgumentsRelated
+pub mod ArrayLikesRelated
