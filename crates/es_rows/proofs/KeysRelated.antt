@@ -105,7 +105,7 @@ descriptor_from_related m n r h =
 
 pub to_descriptor_related : {R : Naming} {v w : Value} {k l : PropertyDescriptor → Act} → BothValue R v w → Then R (BothDescriptor R) k l → Related R (to_property_descriptor v k) (to_property_descriptor w l)
 unfolding to_property_descriptor
-to_descriptor_related b h = object_expected_related b (λ m n r. descriptor_from_related _ _ r h)
+to_descriptor_related b h = object_expected_related _ _ _ _ b (λ m n r. descriptor_from_related _ _ r h)
 
 -- ---- objects from descriptors
 

@@ -1,6 +1,7 @@
 pub mod ArgumentsRelated
 pub mod KeysRelated
 pub mod ObjectsRelated
+pub mod ArrayLikesRelated
 mod Samples
 mod ObjectRows
 mod FunctionRows

@@ -71,7 +71,7 @@ or_null_related (BothSome r) = BothObject r
 
 get_prototype_of_related : {R : Naming} → BuiltInRelated R get_prototype_of get_prototype_of
 unfolding get_prototype_of
-get_prototype_of_related a x vs ws p q = object_expected_related (first_related q) (λ m n r. ask_prototype r (λ o u e. BothGive (or_null_related e)))
+get_prototype_of_related a x vs ws p q = object_expected_related _ _ _ _ (first_related q) (λ m n r. ask_prototype r (λ o u e. BothGive (or_null_related e)))
 
 set_prototype_related : {R : Naming} {v w : Value} {p q : Option ℕ} → BothValue R v w → BothOption R p q → Related R (set_prototype v p) (set_prototype w q)
 set_prototype_related BothUndefined e = BothGive BothUndefined
@@ -98,7 +98,7 @@ set_prototype_of_related a x vs ws p q = coercible_related (first_related q) (pr
 define_property_related : {R : Naming} → BuiltInRelated R define_property define_property
 unfolding define_property
 define_property_related a x vs ws p q =
-    object_expected_related (first_related q) (λ m n r.
+    object_expected_related _ _ _ _ (first_related q) (λ m n r.
     key_expected_related _ _ _ _ (second_related q) (λ key i.
     to_descriptor_related (third_related q) (λ d e b.
     define_or_throw_related _ (λ v w k l. number_expected_related v w k l) m n key d e _ _ r i b (BothGive (BothObject r)))))
@@ -106,7 +106,7 @@ define_property_related a x vs ws p q =
 get_own_property_descriptor_related : {R : Naming} → BuiltInRelated R get_own_property_descriptor get_own_property_descriptor
 unfolding get_own_property_descriptor
 get_own_property_descriptor_related a x vs ws p q =
-    object_expected_related (first_related q) (λ m n r.
+    object_expected_related _ _ _ _ (first_related q) (λ m n r.
     key_expected_related _ _ _ _ (second_related q) (λ key i.
     ask_own_property r (λ c d e. from_property_related e (λ v w b. BothGive b))))
 
@@ -119,11 +119,11 @@ has_own_property_related {R} m n key r = ask_own_property r (λ p q e. rw (is_so
 
 has_own_related : {R : Naming} → BuiltInRelated R has_own has_own
 unfolding has_own
-has_own_related a x vs ws p q = object_expected_related (first_related q) (λ m n r. key_expected_related _ _ _ _ (second_related q) (λ key i. has_own_property_related m n key r))
+has_own_related a x vs ws p q = object_expected_related _ _ _ _ (first_related q) (λ m n r. key_expected_related _ _ _ _ (second_related q) (λ key i. has_own_property_related m n key r))
 
 receiver_has_own_related : {R : Naming} → BuiltInRelated R receiver_has_own receiver_has_own
 unfolding receiver_has_own
-receiver_has_own_related a x vs ws p q = key_expected_related _ _ _ _ (first_related q) (λ key i. object_expected_related p (λ m n r. has_own_property_related m n key r))
+receiver_has_own_related a x vs ws p q = key_expected_related _ _ _ _ (first_related q) (λ key i. object_expected_related _ _ _ _ p (λ m n r. has_own_property_related m n key r))
 
 -- ---- own keys
 
@@ -132,18 +132,18 @@ append_key_related m n r key k l i h = string_of_key_related key i (λ v w b. ap
 
 get_own_property_names_related : {R : Naming} → BuiltInRelated R get_own_property_names get_own_property_names
 unfolding get_own_property_names
-get_own_property_names_related a x vs ws p q = object_expected_related (first_related q) (λ m n r. make_array_related _ _ (λ c d e. each_key_related _ _ r (append_key_related c d e) (given_object c d e)))
+get_own_property_names_related a x vs ws p q = object_expected_related _ _ _ _ (first_related q) (λ m n r. make_array_related _ _ (λ c d e. each_key_related _ _ r (append_key_related c d e) (given_object c d e)))
 
 keys_related : {R : Naming} → BuiltInRelated R keys keys
 unfolding keys
-keys_related a x vs ws p q = object_expected_related (first_related q) (λ m n r. make_array_related _ _ (λ c d e. each_key_related _ _ r (enumerable_only_related _ _ r (append_key_related c d e)) (given_object c d e)))
+keys_related a x vs ws p q = object_expected_related _ _ _ _ (first_related q) (λ m n r. make_array_related _ _ (λ c d e. each_key_related _ _ r (enumerable_only_related _ _ r (append_key_related c d e)) (given_object c d e)))
 
 append_value_related : {R : Naming} (c d m n : ℕ) → R c d → R m n → BodiesRelated R (append_value c m) (append_value d n)
 append_value_related c d m n e r key k l i h = get_related m n key _ _ r (λ v w b. append_related _ _ _ _ _ _ (BothObject e) b h)
 
 values_related : {R : Naming} → BuiltInRelated R values values
 unfolding values
-values_related a x vs ws p q = object_expected_related (first_related q) (λ m n r. make_array_related _ _ (λ c d e. each_key_turn_related _ _ r (enumerable_only_related _ _ r (append_value_related c d m n e r)) (given_object c d e)))
+values_related a x vs ws p q = object_expected_related _ _ _ _ (first_related q) (λ m n r. make_array_related _ _ (λ c d e. each_key_turn_related _ _ r (enumerable_only_related _ _ r (append_value_related c d m n e r)) (given_object c d e)))
 
 make_pair_related : {R : Naming} (key : Key) {v w : Value} {k l : Value → Act} → IsKey key → BothValue R v w → Then R (BothValue R) k l → Related R (make_pair key v k) (make_pair key w l)
 make_pair_related key i b h = string_of_key_related key i (λ t u e. make_array_related _ _ (λ m n r. append_related _ _ _ _ _ _ (BothObject r) e (append_related _ _ _ _ _ _ (BothObject r) b (h _ _ (BothObject r)))))
@@ -153,7 +153,7 @@ append_entry_related c d m n e r key k l i h = get_related m n key _ _ r (λ v w
 
 entries_related : {R : Naming} → BuiltInRelated R entries entries
 unfolding entries
-entries_related a x vs ws p q = object_expected_related (first_related q) (λ m n r. make_array_related _ _ (λ c d e. each_key_turn_related _ _ r (enumerable_only_related _ _ r (append_entry_related c d m n e r)) (given_object c d e)))
+entries_related a x vs ws p q = object_expected_related _ _ _ _ (first_related q) (λ m n r. make_array_related _ _ (λ c d e. each_key_turn_related _ _ r (enumerable_only_related _ _ r (append_entry_related c d m n e r)) (given_object c d e)))
 
 copy_property_related : {R : Naming} (m n c d : ℕ) → R m n → R c d → BodiesRelated R (copy_property m c) (copy_property n d)
 copy_property_related m n c d r e key k l i h = get_related m n key _ _ r (λ v w b. set_or_throw_related _ (λ v w k l. number_expected_related v w k l) c d key v w _ _ e i b h)
@@ -172,7 +172,7 @@ assign_sources_related c d e (BothCons b bs) = assign_source_related c d e b (as
 
 assign_related : {R : Naming} → BuiltInRelated R assign assign
 unfolding assign
-assign_related a x vs ws p q = object_expected_related (first_related q) (λ c d e. assign_sources_related c d e (rest_related q))
+assign_related a x vs ws p q = object_expected_related _ _ _ _ (first_related q) (λ c d e. assign_sources_related c d e (rest_related q))
 
 -- ---- extensible and frozen objects
 
