@@ -56,7 +56,7 @@ string_of_key_related (Numeral n) x h = h _ _ (BothString x.text)
 field_related : {R : Naming} (m n : ℕ) (name : Text) {k l : Option Value → Act} → R m n → Then R (BothOption (BothValue R)) k l → Related R (field m name k) (field n name l)
 field_related m n name r h = has_property_related _ _ (Named name) _ _ r (λ has. cond_related has _ _ _ _ (get_related _ _ (Named name) _ _ r (λ v w b. h _ _ (BothSome b))) (h _ _ BothNone))
 
-to_boolean_same : {R : Naming} {v w : Value} → BothValue R v w → to_boolean v ≡ to_boolean w
+pub to_boolean_same : {R : Naming} {v w : Value} → BothValue R v w → to_boolean v ≡ to_boolean w
 to_boolean_same BothUndefined = refl
 to_boolean_same BothNull = refl
 to_boolean_same BothBoolean = refl

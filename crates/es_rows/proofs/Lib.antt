@@ -1,7 +1,8 @@
 pub mod ArgumentsRelated
+pub mod ArrayLikesRelated
 pub mod KeysRelated
 pub mod ObjectsRelated
-pub mod ArrayLikesRelated
+pub mod FunctionsRelated
 mod Samples
 mod ObjectRows
 mod FunctionRows
