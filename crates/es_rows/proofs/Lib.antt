@@ -3,6 +3,7 @@ pub mod ArrayLikesRelated
 pub mod KeysRelated
 pub mod ObjectsRelated
 pub mod FunctionsRelated
+pub mod PromisesRelated
 mod Samples
 mod ObjectRows
 mod FunctionRows
