@@ -4,6 +4,7 @@ pub mod KeysRelated
 pub mod ObjectsRelated
 pub mod FunctionsRelated
 pub mod PromisesRelated
+pub mod NumbersRelated
 mod Samples
 mod ObjectRows
 mod FunctionRows
