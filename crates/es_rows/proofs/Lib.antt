@@ -6,4 +6,8 @@ mod PromiseRows
 mod StringRows
 mod ArrayRows
 pub mod ArgumentsRelated
+pub mod TableRelated
+pub mod PositionsRelated
+pub mod TextUnits
 pub mod ArrayLikesRelated
+pub mod StringRelated
