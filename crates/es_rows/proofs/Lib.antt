@@ -11,3 +11,4 @@ pub mod PositionsRelated
 pub mod TextUnits
 pub mod ArrayLikesRelated
 pub mod StringRelated
+pub mod ArrayCallbacksRelated
