@@ -21,15 +21,9 @@ use Rattle.es_ops.proofs.WritesRelated.{create_related, ordinary_set_related}
 use Rattle.es_rows.specs.Positions.{at_least_zero}
 use Rattle.es_rows.specs.ArrayLikes.{Next, length_of_array_like, array_like, length_in_range, accepted_or_raise, index, get_index, if_present, set_index, set_length, delete_index, create_index, move_index, each, each_with, each_present, each_present_with, each_down, set_items, array_record, array_create, result_array, is_array_value}
 use Rattle.es_rows.proofs.ArgumentsRelated.{object_expected_related}
+use Rattle.es_rows.proofs.PositionsRelated.{natural, at_least_zero_bound}
 
--- ---- numbers
-
-pub natural : (n : ℕ) → n ≤ greatest → IsNumber (pos n)
-natural n h = record { bound = h }
-
-pub at_least_zero_bound : (z : ℤ) → IsNumber z → at_least_zero z ≤ greatest
-at_least_zero_bound (pos n) h = h.bound
-at_least_zero_bound (negsuc n) h = lit≤ tt
+-- ---- receivers and lengths
 
 pub length_related : {R : Naming} (m n : ℕ) (k l : ℕ → Act) → R m n → ((size : ℕ) → size ≤ greatest → Related R (k size) (l size)) → Related R (length_of_array_like m k) (length_of_array_like n l)
 unfolding length_of_array_like

@@ -1,10 +1,15 @@
 pub mod ArgumentsRelated
+pub mod TableRelated
+pub mod PositionsRelated
+pub mod TextUnits
 pub mod ArrayLikesRelated
 pub mod KeysRelated
 pub mod ObjectsRelated
 pub mod FunctionsRelated
 pub mod PromisesRelated
 pub mod NumbersRelated
+pub mod StringRelated
+pub mod ArrayCallbacksRelated
 mod Samples
 mod ObjectRows
 mod FunctionRows

@@ -24,12 +24,15 @@ abbrev pub create_items : (array at : ℕ) → List Value → Act
 create_items a at [] = Give (Object a)
 create_items a at (v ∷ vs) = create_index a at v (λ _. create_items a (suc at) vs)
 
+abbrev pub array_of : (count : ℕ) → List Value → (prototype : ℕ) → Act
+array_of count items prototype = array_create count prototype (λ a. create_items a 0 items)
+
 -- steps 4 to 6
 abbrev pub array_with : List Value → (prototype : ℕ) → Act
 array_with [] prototype = array_create 0 prototype (λ a. Give (Object a))
 array_with (Number (pos n) ∷ []) prototype = array_create n prototype (λ a. Give (Object a))
 array_with (Number (negsuc n) ∷ []) prototype = raise InvalidArrayLength
-array_with items prototype = array_create (length items) prototype (λ a. create_items a 0 items)
+array_with items prototype = array_of (length items) items prototype
 
 unfoldable pub array : (function : ℕ) → (target : Option Value) → List Value → Act
 array function target arguments = prototype_from (target_or target function) ArrayPrototype (array_with arguments)

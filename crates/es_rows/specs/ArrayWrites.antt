@@ -26,9 +26,11 @@ pop this arguments = array_like this pop_of
 abbrev pub give_length : (object size : ℕ) → Act
 give_length o size = set_length o size (λ _. Give (Number (pos size)))
 
+abbrev pub push_items : (object size : ℕ) → (count : ℕ) → List Value → Act
+push_items o size count items = length_in_range (size + count) (set_items o size items (λ _. give_length o (size + count)))
+
 unfoldable pub push : Value → List Value → Act
-push this arguments = array_like this (λ o size.
-    length_in_range (size + length arguments) (set_items o size arguments (λ _. give_length o (size + length arguments))))
+push this arguments = array_like this (λ o size. push_items o size (length arguments) arguments)
 
 -- 86, reverse (23.1.3.26): the values of a lower and an upper index change places, as far as they are there
 abbrev pub swap_present : (object lower upper : ℕ) → Value → Next → Act
@@ -54,14 +56,16 @@ unfoldable pub shift : Value → List Value → Act
 shift this arguments = array_like this shift_of
 
 -- 92, unshift (23.1.3.37)
-abbrev pub unshift_items : (object size : ℕ) → List Value → Act
-unshift_items o size items =
-    each_down (λ at next. move_index o at (at + length items) next)
-    (λ _. set_items o 0 items (λ _. give_length o (size + length items)) tt) size 0 tt
+abbrev pub move_up_all : (object size : ℕ) → (count : ℕ) → List Value → Act
+move_up_all o size count items =
+    each_down (λ at next. move_index o at (at + count) next) (λ _. set_items o 0 items (λ _. give_length o (size + count)) tt) size 0 tt
+
+abbrev pub unshift_items : (object size : ℕ) → (count : ℕ) → List Value → Act
+unshift_items o size count items = length_in_range (size + count) (λ _. move_up_all o size count items)
 
 abbrev pub unshift_of : List Value → (object size : ℕ) → Act
 unshift_of [] o size = give_length o size
-unshift_of (v ∷ vs) o size = length_in_range (size + length (v ∷ vs)) (λ _. unshift_items o size (v ∷ vs))
+unshift_of (v ∷ vs) o size = unshift_items o size (length (v ∷ vs)) (v ∷ vs)
 
 unfoldable pub unshift : Value → List Value → Act
 unshift this arguments = array_like this (unshift_of arguments)
@@ -74,11 +78,12 @@ pub record Splicing : Type 0 where
   pub size : ℕ  -- len
   pub start : ℕ  -- actualStart
   pub deleted : ℕ  -- actualDeleteCount
+  pub added : ℕ  -- itemCount
   pub items : List Value
 
 -- the length that is left
 abbrev pub spliced_length : Splicing → ℕ
-spliced_length s = s.size - s.deleted + length s.items
+spliced_length s = s.size - s.deleted + s.added
 
 -- steps 16 to 19: the items, the length, the result
 abbrev pub place_items : Splicing → (result : ℕ) → Act
@@ -87,23 +92,23 @@ place_items s a = set_items s.object s.start s.items (λ _. set_length s.object 
 -- step 16, fewer items than were deleted: what stands behind moves down, and the places at the end are dropped
 abbrev pub drop_end : Splicing → (result : ℕ) → Act
 drop_end s a =
-    each_down (λ at next. delete_index s.object at next) (λ _. place_items s a) (s.deleted - length s.items) (spliced_length s) tt
+    each_down (λ at next. delete_index s.object at next) (λ _. place_items s a) (s.deleted - s.added) (spliced_length s) tt
 
 abbrev pub move_down : Splicing → (result : ℕ) → Act
 move_down s a =
-    each (λ at next. move_index s.object (at + s.deleted) (at + length s.items) next) (λ _. drop_end s a)
+    each (λ at next. move_index s.object (at + s.deleted) (at + s.added) next) (λ _. drop_end s a)
     (s.size - s.deleted - s.start) s.start tt
 
 -- step 17, more items: what stands behind moves up, the last one first
 abbrev pub move_up : Splicing → (result : ℕ) → Act
 move_up s a =
-    each_down (λ at next. move_index s.object (at + s.deleted) (at + length s.items) next) (λ _. place_items s a)
+    each_down (λ at next. move_index s.object (at + s.deleted) (at + s.added) next) (λ _. place_items s a)
     (s.size - s.deleted - s.start) s.start tt
 
 abbrev pub move_rest : Splicing → (result : ℕ) → Act
 move_rest s a =
-    cond (nat_lt (length s.items) s.deleted) (move_down s a)
-    (cond (nat_lt s.deleted (length s.items)) (move_up s a) (place_items s a))
+    cond (nat_lt (s.added) s.deleted) (move_down s a)
+    (cond (nat_lt s.deleted (s.added)) (move_up s a) (place_items s a))
 
 -- steps 11 to 15: the deleted values as an array
 abbrev pub splice_by : Splicing → Act
@@ -121,7 +126,7 @@ abbrev pub splice_of : List Value → (object size : ℕ) → Act
 splice_of arguments o size =
     relative_position 0 (first arguments) size (λ start.
     delete_count arguments (size - start) (λ deleted.
-    splice_by (record { object = o; size = size; start = start; deleted = deleted; items = drop 2 arguments })))
+    splice_by (record { object = o; size = size; start = start; deleted = deleted; added = length (drop 2 arguments); items = drop 2 arguments })))
 
 unfoldable pub splice : Value → List Value → Act
 splice this arguments = array_like this (splice_of arguments)
