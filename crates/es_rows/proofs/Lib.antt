@@ -8,6 +8,7 @@ pub mod ObjectsRelated
 pub mod FunctionsRelated
 pub mod PromisesRelated
 pub mod NumbersRelated
+pub mod RealmLaws
 pub mod StringRelated
 pub mod ArrayCallbacksRelated
 mod Samples
