@@ -12,6 +12,7 @@ pub mod RealmLaws
 pub mod StringRelated
 pub mod ArrayCallbacksRelated
 mod Samples
+mod RealmRows
 mod ObjectRows
 mod FunctionRows
 mod NumberRows
