@@ -12,3 +12,5 @@ pub mod TextUnits
 pub mod ArrayLikesRelated
 pub mod StringRelated
 pub mod ArrayCallbacksRelated
+pub mod ArrayReadsRelated
+pub mod ArrayWritesRelated

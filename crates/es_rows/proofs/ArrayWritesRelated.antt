@@ -1,0 +1,120 @@
+-- The methods of Array.prototype that change the receiver are the same but for the numbers of things.
+use Rattle.std.proofs.Common.{◌≡◌, ℕ, zero, suc, ◌+◌, ◌-◌, ◌/◌, ◌≤◌, min, Bool, true, false, cond, nat_lt, List, [], ◌∷◌, length, drop, pos, refl, ap, arith, lit≤}
+use Rattle.js_value.specs.Number.{greatest}
+use Rattle.js_value.specs.Value.{Value, Undefined, Number, Object}
+use Rattle.es_ops.specs.Act.{Act, Give}
+use Rattle.es_ops.specs.Related.{Naming, BothList, BothEmpty, BothCons, BothValue, BothUndefined, BothNumber, BothObject, Related, BothGive, Then}
+use Rattle.es_ops.proofs.Parts.{cond_related}
+use Rattle.es_rows.specs.ArrayLikes.{Next, delete_index, set_length}
+use Rattle.es_rows.specs.ArrayWrites.{fill, pop_of, pop, give_length, push_items, push, swap_present, swap_absent, swap, reverse, shift_of, shift, move_up_all, unshift_items, unshift_of, unshift, Splicing, spliced_length, place_items, drop_end, move_down, move_up, move_rest, splice_by, delete_count, splice_of, splice}
+use Rattle.es_rows.proofs.ArgumentsRelated.{argument_related}
+use Rattle.es_rows.proofs.PositionsRelated.{natural, relative_position_related, count_expected_related}
+use Rattle.es_rows.proofs.TableRelated.{RelatedRow}
+use Rattle.es_rows.proofs.ArrayLikesRelated.{ThenNext, array_like_related, length_in_range_related, get_index_related, if_present_related, set_index_related, set_length_related, delete_index_related, move_index_related, each_related, each_down_related, set_items_related, result_array_related}
+use Rattle.es_rows.proofs.ArrayReadsRelated.{copy_range_related}
+
+pub both_length : {R : Naming} {vs ws : List Value} → BothList (BothValue R) vs ws → length vs ≡ length ws
+both_length BothEmpty = refl
+both_length (BothCons c cs) = ap suc (both_length cs)
+
+pub both_dropped : {R : Naming} (n : ℕ) (vs ws : List Value) → BothList (BothValue R) vs ws → BothList (BothValue R) (drop n vs) (drop n ws)
+both_dropped zero vs ws BothEmpty = BothEmpty
+both_dropped zero (v ∷ vs) (w ∷ ws) (BothCons c cs) = BothCons c cs
+both_dropped (suc n) vs ws BothEmpty = BothEmpty
+both_dropped (suc n) (v ∷ vs) (w ∷ ws) (BothCons c cs) = both_dropped n vs ws cs
+
+-- ---- fill, pop, push
+
+pub fill_related : {R : Naming} → RelatedRow R fill fill
+unfolding fill
+fill_related this that vs ws b c =
+    array_like_related this that _ _ b (λ m n size r i.
+    relative_position_related 0 _ _ size _ _ (lit≤ tt) (argument_related vs ws 1 c) (λ from f.
+    relative_position_related size _ _ size _ _ i (argument_related vs ws 2 c) (λ to g.
+    each_related size _ _ _ _ (λ at k l j u. set_index_related m n at _ _ k l r (omega (arith, i, j)) (argument_related vs ws 0 c) u) (λ _. BothGive (BothObject r)) (to - from) from (omega (arith, f, g)) tt)))
+
+pop_of_related : {R : Naming} (m n size : ℕ) → R m n → size ≤ greatest → Related R (pop_of m size) (pop_of n size)
+pop_of_related m n zero r i = set_length_related m n 0 _ _ r i (λ _. BothGive BothUndefined)
+pop_of_related m n (suc last) r i = get_index_related m n last _ _ r (λ v w b. delete_index_related m n last _ _ r (λ _. set_length_related m n last (λ _. Give v) (λ _. Give w) r (omega (arith, i)) (λ _. BothGive b)))
+
+pub pop_related : {R : Naming} → RelatedRow R pop pop
+unfolding pop
+pop_related this that vs ws b c = array_like_related this that _ _ b (λ m n size r i. pop_of_related m n size r i)
+
+give_length_related : {R : Naming} (m n size : ℕ) → R m n → size ≤ greatest → Related R (give_length m size) (give_length n size)
+give_length_related m n size r i = set_length_related m n size _ _ r i (λ _. BothGive (BothNumber (natural size i)))
+
+push_items_related : {R : Naming} (m n size count : ℕ) (vs ws : List Value) → R m n → length vs ≤ count → BothList (BothValue R) vs ws → Related R (push_items m size count vs) (push_items n size count ws)
+push_items_related m n size count vs ws r l c = length_in_range_related (size + count) _ _ (λ j. set_items_related m n size vs ws _ _ r (omega (arith, j, l)) c (λ _. give_length_related m n (size + count) r j))
+
+pub push_related : {R : Naming} → RelatedRow R push push
+unfolding push
+push_related this that vs ws b c = array_like_related this that _ _ b (λ m n size r i. rw (both_length c) (push_items_related m n size (length ws) vs ws r (let e = both_length c in omega (arith, e)) c))
+
+-- ---- reverse
+
+swap_present_related : {R : Naming} (m n lower upper : ℕ) (v w : Value) (k l : Next) → R m n → lower ≤ greatest → upper ≤ greatest → BothValue R v w → ThenNext R k l → Related R (swap_present m lower upper v k) (swap_present n lower upper w l)
+swap_present_related m n lower upper v w k l r i j b h =
+    if_present_related m n upper _ _ _ _ r
+    (λ x y c. set_index_related m n lower x y _ _ r i c (λ _. set_index_related m n upper v w k l r j b h))
+    (λ _. delete_index_related m n lower _ _ r (λ _. set_index_related m n upper v w k l r j b h))
+
+swap_absent_related : {R : Naming} (m n lower upper : ℕ) (k l : Next) → R m n → lower ≤ greatest → ThenNext R k l → Related R (swap_absent m lower upper k) (swap_absent n lower upper l)
+swap_absent_related m n lower upper k l r i h = if_present_related m n upper _ _ k l r (λ x y c. set_index_related m n lower x y _ _ r i c (λ _. delete_index_related m n upper k l r h)) h
+
+swap_related : {R : Naming} (m n lower upper : ℕ) (k l : Next) → R m n → lower ≤ greatest → upper ≤ greatest → ThenNext R k l → Related R (swap m lower upper k) (swap n lower upper l)
+swap_related m n lower upper k l r i j h = if_present_related m n lower _ _ _ _ r (λ v w b. swap_present_related m n lower upper v w k l r i j b h) (λ _. swap_absent_related m n lower upper k l r i h)
+
+pub reverse_related : {R : Naming} → RelatedRow R reverse reverse
+unfolding reverse
+reverse_related this that vs ws b c =
+    array_like_related this that _ _ b (λ m n size r i.
+    each_related size _ _ _ _ (λ at k l j u. swap_related m n at (size - suc at) k l r (omega (arith, i, j)) (omega (arith, i, j)) u) (λ _. BothGive (BothObject r)) (size / 2) 0 (omega arith) tt)
+
+-- ---- shift and unshift
+
+shift_of_related : {R : Naming} (m n size : ℕ) → R m n → size ≤ greatest → Related R (shift_of m size) (shift_of n size)
+shift_of_related m n zero r i = set_length_related m n 0 _ _ r i (λ _. BothGive BothUndefined)
+shift_of_related m n (suc last) r i =
+    get_index_related m n 0 _ _ r (λ v w b.
+    each_related last _ _ (λ _. delete_last m v) (λ _. delete_last n w) (λ at k l j u. move_index_related m n (suc at) at k l r (omega (arith, i, j)) u)
+    (λ _. delete_index_related m n last _ _ r (λ _. set_length_related m n last (λ _. Give v) (λ _. Give w) r (omega (arith, i)) (λ _. BothGive b)))
+    last 0 (omega arith) tt)
+  where
+    delete_last : ℕ → Value → Act
+    delete_last o v = delete_index o last (λ _. set_length o last (λ _. Give v))
+
+pub shift_related : {R : Naming} → RelatedRow R shift shift
+unfolding shift
+shift_related this that vs ws b c = array_like_related this that _ _ b (λ m n size r i. shift_of_related m n size r i)
+
+move_up_related : {R : Naming} (m n size count : ℕ) (vs ws : List Value) → R m n → size + count ≤ greatest → length vs ≤ count → BothList (BothValue R) vs ws → Related R (move_up_all m size count vs) (move_up_all n size count ws)
+move_up_related m n size count vs ws r i l c =
+    each_down_related size _ _ _ _ (λ at k f j u. move_index_related m n at (at + count) k f r (omega (arith, i, j)) u)
+    (λ _. set_items_related m n 0 vs ws _ _ r (omega (arith, i, l)) c (λ _. give_length_related m n (size + count) r i) tt) size 0 (omega arith) tt
+
+unshift_items_related : {R : Naming} (m n size count : ℕ) (vs ws : List Value) → R m n → length vs ≤ count → BothList (BothValue R) vs ws → Related R (unshift_items m size count vs) (unshift_items n size count ws)
+unshift_items_related m n size count vs ws r l c = length_in_range_related (size + count) _ _ (λ j u. move_up_related m n size count vs ws r j l c)
+
+unshift_of_related : {R : Naming} (vs ws : List Value) (m n size : ℕ) → BothList (BothValue R) vs ws → R m n → size ≤ greatest → Related R (unshift_of vs m size) (unshift_of ws n size)
+unshift_of_related vs ws m n size BothEmpty r i = give_length_related m n size r i
+unshift_of_related (v ∷ vs) (w ∷ ws) m n size (BothCons c cs) r i = rw (both_length (BothCons c cs)) (unshift_items_related m n size (length (w ∷ ws)) (v ∷ vs) (w ∷ ws) r (let e = both_length cs in omega (arith, e)) (BothCons c cs))
+
+pub unshift_related : {R : Naming} → RelatedRow R unshift unshift
+unfolding unshift
+unshift_related this that vs ws b c = array_like_related this that _ _ b (λ m n size r i. unshift_of_related vs ws m n size c r i)
+
+-- ---- splice
+
+-- the same work on two objects, within their lengths
+record BothSplicing (R : Naming) (s t : Splicing) : Type 0 where
+  object : R s.object t.object
+  size : s.size ≡ t.size
+  start : s.start ≡ t.start
+  deleted : s.deleted ≡ t.deleted
+  added : s.added ≡ t.added
+  items : BothList (BothValue R) s.items t.items
+  within : t.start + t.deleted ≤ t.size
+  bound : t.size ≤ greatest
+  left : t.size - t.deleted + t.added ≤ greatest
+  all : length s.items ≤ t.added
