@@ -106,15 +106,62 @@ unshift_related this that vs ws b c = array_like_related this that _ _ b (λ m n
 
 -- ---- splice
 
--- the same work on two objects, within their lengths
-record BothSplicing (R : Naming) (s t : Splicing) : Type 0 where
-  object : R s.object t.object
-  size : s.size ≡ t.size
-  start : s.start ≡ t.start
-  deleted : s.deleted ≡ t.deleted
-  added : s.added ≡ t.added
-  items : BothList (BothValue R) s.items t.items
-  within : t.start + t.deleted ≤ t.size
-  bound : t.size ≤ greatest
-  left : t.size - t.deleted + t.added ≤ greatest
-  all : length s.items ≤ t.added
+abbrev splicing : (object size start deleted added : ℕ) → List Value → Splicing
+splicing object size start deleted added items = record { object = object; size = size; start = start; deleted = deleted; added = added; items = items }
+
+-- the work is within the length, and so is what comes of it
+record IsWithin (size start deleted added : ℕ) (items : List Value) : Type 0 where
+  part : start + deleted ≤ size
+  bound : size ≤ greatest
+  after : size - deleted + added ≤ greatest
+  all : length items ≤ added
+
+place_items_related : {R : Naming} (m n p q size start deleted added : ℕ) (vs ws : List Value) → R m n → R p q → IsWithin size start deleted added vs → BothList (BothValue R) vs ws → Related R (place_items (splicing m size start deleted added vs) p) (place_items (splicing n size start deleted added ws) q)
+place_items_related m n p q size start deleted added vs ws r t i c =
+    let part = i.part in let after = i.after in let all = i.all in
+    set_items_related m n start vs ws _ _ r (omega (arith, part, after, all)) c (λ _. set_length_related m n (size - deleted + added) _ _ r after (λ _. BothGive (BothObject t))) tt
+
+drop_end_related : {R : Naming} (m n p q size start deleted added : ℕ) (vs ws : List Value) → R m n → R p q → IsWithin size start deleted added vs → BothList (BothValue R) vs ws → Related R (drop_end (splicing m size start deleted added vs) p) (drop_end (splicing n size start deleted added ws) q)
+drop_end_related m n p q size start deleted added vs ws r t i c =
+    each_down_related (deleted - added + (size - deleted + added)) _ _ _ _ (λ at k l j u. delete_index_related m n at k l r u) (λ _. place_items_related m n p q size start deleted added vs ws r t i c)
+    (deleted - added) (size - deleted + added) (omega arith) tt
+
+move_down_related : {R : Naming} (m n p q size start deleted added : ℕ) (vs ws : List Value) → R m n → R p q → IsWithin size start deleted added vs → BothList (BothValue R) vs ws → Related R (move_down (splicing m size start deleted added vs) p) (move_down (splicing n size start deleted added ws) q)
+move_down_related m n p q size start deleted added vs ws r t i c =
+    let part = i.part in let after = i.after in
+    each_related (size - deleted) _ _ _ _ (λ at k l j u. move_index_related m n (at + deleted) (at + added) k l r (omega (arith, after, j)) u) (λ _. drop_end_related m n p q size start deleted added vs ws r t i c)
+    (size - deleted - start) start (omega (arith, part)) tt
+
+move_rest_up_related : {R : Naming} (m n p q size start deleted added : ℕ) (vs ws : List Value) → R m n → R p q → IsWithin size start deleted added vs → BothList (BothValue R) vs ws → Related R (move_up (splicing m size start deleted added vs) p) (move_up (splicing n size start deleted added ws) q)
+move_rest_up_related m n p q size start deleted added vs ws r t i c =
+    let part = i.part in let after = i.after in
+    each_down_related (size - deleted) _ _ _ _ (λ at k l j u. move_index_related m n (at + deleted) (at + added) k l r (omega (arith, after, j)) u) (λ _. place_items_related m n p q size start deleted added vs ws r t i c)
+    (size - deleted - start) start (omega (arith, part)) tt
+
+move_rest_related : {R : Naming} (m n p q size start deleted added : ℕ) (vs ws : List Value) → R m n → R p q → IsWithin size start deleted added vs → BothList (BothValue R) vs ws → Related R (move_rest (splicing m size start deleted added vs) p) (move_rest (splicing n size start deleted added ws) q)
+move_rest_related m n p q size start deleted added vs ws r t i c =
+    cond_related (nat_lt added deleted) _ _ _ _ (move_down_related m n p q size start deleted added vs ws r t i c)
+    (cond_related (nat_lt deleted added) _ _ _ _ (move_rest_up_related m n p q size start deleted added vs ws r t i c) (place_items_related m n p q size start deleted added vs ws r t i c))
+
+splice_by_related : {R : Naming} (m n size start deleted added other : ℕ) (vs ws : List Value) → added ≡ other → R m n → start + deleted ≤ size → size ≤ greatest → length vs ≤ other → BothList (BothValue R) vs ws → Related R (splice_by (splicing m size start deleted added vs)) (splice_by (splicing n size start deleted other ws))
+splice_by_related m n size start deleted added other vs ws e r part bound all c = rw e
+    (length_in_range_related (size - deleted + other) _ _ (λ after u. result_array_related deleted _ _ (λ p q t.
+    copy_range_related p q m n deleted start _ _ t r (omega (arith, part, bound)) (λ _.
+    set_length_related p q deleted _ _ t (omega (arith, part, bound)) (λ _.
+    move_rest_related m n p q size start deleted other vs ws r t (record { part = part; bound = bound; after = after; all = all }) c)))))
+
+delete_count_related : {R : Naming} (vs ws : List Value) (behind : ℕ) (k l : ℕ → Act) → BothList (BothValue R) vs ws → ((n : ℕ) → n ≤ behind → Related R (k n) (l n)) → Related R (delete_count vs behind k) (delete_count ws behind l)
+delete_count_related vs ws behind k l BothEmpty h = h 0 (omega arith)
+delete_count_related (v ∷ vs) (w ∷ ws) behind k l (BothCons c BothEmpty) h = h behind (omega arith)
+delete_count_related (v ∷ x ∷ vs) (w ∷ y ∷ ws) behind k l (BothCons c (BothCons d ds)) h = count_expected_related x y _ _ d (λ n i. h (min n behind) (omega arith))
+
+splice_of_related : {R : Naming} (vs ws : List Value) (m n size : ℕ) → BothList (BothValue R) vs ws → R m n → size ≤ greatest → Related R (splice_of vs m size) (splice_of ws n size)
+splice_of_related vs ws m n size c r i =
+    relative_position_related 0 _ _ size _ _ (lit≤ tt) (argument_related vs ws 0 c) (λ start f.
+    delete_count_related vs ws (size - start) _ _ c (λ deleted g.
+    let items = both_dropped 2 vs ws c in let e = both_length items in
+    splice_by_related m n size start deleted (length (drop 2 vs)) (length (drop 2 ws)) (drop 2 vs) (drop 2 ws) e r (omega (arith, f, g)) i (omega (arith, e)) items))
+
+pub splice_related : {R : Naming} → RelatedRow R splice splice
+unfolding splice
+splice_related this that vs ws b c = array_like_related this that _ _ b (λ m n size r i. splice_of_related vs ws m n size c r i)
