@@ -1,3 +1,18 @@
+pub mod ArgumentsRelated
+pub mod TableRelated
+pub mod PositionsRelated
+pub mod TextUnits
+pub mod ArrayLikesRelated
+pub mod KeysRelated
+pub mod ObjectsRelated
+pub mod FunctionsRelated
+pub mod PromisesRelated
+pub mod NumbersRelated
+pub mod StringRelated
+pub mod ArrayCallbacksRelated
+pub mod ArrayReadsRelated
+pub mod ArrayWritesRelated
+pub mod ArrayRelated
 mod Samples
 mod ObjectRows
 mod FunctionRows
@@ -5,12 +20,3 @@ mod NumberRows
 mod PromiseRows
 mod StringRows
 mod ArrayRows
-pub mod ArgumentsRelated
-pub mod TableRelated
-pub mod PositionsRelated
-pub mod TextUnits
-pub mod ArrayLikesRelated
-pub mod StringRelated
-pub mod ArrayCallbacksRelated
-pub mod ArrayReadsRelated
-pub mod ArrayWritesRelated
