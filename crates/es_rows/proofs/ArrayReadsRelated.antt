@@ -13,9 +13,8 @@ use Rattle.es_ops.proofs.ReadsRelated.{made_text_related, units_joined, text_exp
 use Rattle.es_ops.proofs.WritesRelated.{same_value_related}
 use Rattle.es_rows.specs.ArrayLikes.{Next, create_index, if_present}
 use Rattle.es_rows.specs.ArrayReads.{spread, concat_item, concat_items, concat, includes_from, searched, includes, index_of_from, index_of, separator_expected, item_text, separated, join_from, join, copy_range, slice}
-use Rattle.es_rows.proofs.ArgumentsRelated.{argument_related, object_expected_related}
+use Rattle.es_rows.proofs.ArgumentsRelated.{argument_related, object_expected_related, BuiltInRelated}
 use Rattle.es_rows.proofs.PositionsRelated.{natural, relative_position_related}
-use Rattle.es_rows.proofs.TableRelated.{RelatedRow}
 use Rattle.es_rows.proofs.ArrayLikesRelated.{ThenNext, array_like_related, length_in_range_related, get_index_related, if_present_related, set_length_related, create_index_related, each_related, each_with_related, each_present_related, result_array_related, is_array_value_related}
 use Rattle.es_rows.proofs.ArrayCallbacksRelated.{Leaves}
 
@@ -41,7 +40,7 @@ concat_items_related : {R : Naming} (m n to : ℕ) (vs ws : List Value) → R m 
 concat_items_related m n to vs ws r i BothEmpty = set_length_related m n to _ _ r i (λ _. BothGive (BothObject r))
 concat_items_related m n to (v ∷ vs) (w ∷ ws) r i (BothCons c cs) = is_array_value_related v w _ _ c (λ is. concat_item_related m n to v w is (concat_items m vs) (concat_items n ws) r c (λ x y e. rw e.0 (concat_items_related m n y vs ws r e.1 cs)))
 
-pub concat_related : {R : Naming} → RelatedRow R concat concat
+pub concat_related : {R : Naming} → BuiltInRelated R concat concat
 unfolding concat
 concat_related this that vs ws b c = object_expected_related this that _ _ b (λ o p q. result_array_related 0 _ _ (λ m n r. concat_items_related m n 0 (this ∷ vs) (that ∷ ws) r (lit≤ tt) (BothCons b c)))
 
@@ -64,11 +63,11 @@ searched_related this that vs ws otherwise k l b c o h =
     cond_related (nat_eq size 0) _ _ _ _ (BothGive o)
     (relative_position_related 0 _ _ size _ _ (lit≤ tt) (argument_related vs ws 1 c) (λ at j. h m n _ _ (size - at) at r (argument_related vs ws 0 c) (omega (arith, i, j)))))
 
-pub includes_related : {R : Naming} → IsOneToOne R → RelatedRow R includes includes
+pub includes_related : {R : Naming} → IsOneToOne R → BuiltInRelated R includes includes
 unfolding includes
 includes_related one this that vs ws b c = searched_related this that vs ws (Boolean false) _ _ b c BothBoolean (includes_from_related one)
 
-pub index_of_related : {R : Naming} → IsOneToOne R → RelatedRow R index_of index_of
+pub index_of_related : {R : Naming} → IsOneToOne R → BuiltInRelated R index_of index_of
 unfolding index_of
 index_of_related one this that vs ws b c = searched_related this that vs ws (Number (negsuc 0)) _ _ b c (BothNumber (record { bound = lit≤ tt })) (index_of_from_related one)
 
@@ -104,7 +103,7 @@ join_from_related m n size separator r i a =
     (λ count at s t k l q e u. get_index_related m n at (λ v. item_text v (λ item. k (separated separator at s item))) (λ v. item_text v (λ item. l (separated separator at t item))) r (λ v w b. item_related v w _ _ b (λ item j. rw e.0 (u _ _ (refl, units_separated separator at t item a e.1 j.units)))))
     (λ s t e. rw e.0 (made_text_related t Give Give e.1 (λ v w b. BothGive b))) size 0 [] [] (omega (arith, i)) (refl, tt)
 
-pub join_related : {R : Naming} → RelatedRow R join join
+pub join_related : {R : Naming} → BuiltInRelated R join join
 unfolding join
 join_related this that vs ws b c = array_like_related this that _ _ b (λ m n size r i. separator_related _ _ _ _ (argument_related vs ws 0 c) (λ separator j. join_from_related m n size separator r i j.units))
 
@@ -114,7 +113,7 @@ pub copy_range_related : {R : Naming} (m n o p count at : ℕ) (e d : Next) → 
 copy_range_related m n o p count at e d r q i h =
     each_related count _ _ e d (λ j k l b u. if_present_related o p (at + j) _ _ k l q (λ v w c. create_index_related m n j v w k l r (omega (arith, b, i)) c u) u) h count 0 (omega arith) tt
 
-pub slice_related : {R : Naming} → RelatedRow R slice slice
+pub slice_related : {R : Naming} → BuiltInRelated R slice slice
 unfolding slice
 slice_related this that vs ws b c =
     array_like_related this that _ _ b (λ o p size q i.

@@ -10,8 +10,7 @@ use Rattle.es_ops.proofs.Parts.{cond_related}
 use Rattle.es_ops.proofs.ReadsRelated.{raise_related, is_callable_related, get_related}
 use Rattle.es_ops.proofs.CallingRelated.{prototype_from_related}
 use Rattle.es_rows.specs.Array.{target_or, create_items, array_of, array_with, array, is_array, to_string, array_functions, array_row}
-use Rattle.es_rows.proofs.ArgumentsRelated.{argument_related, object_expected_related}
-use Rattle.es_rows.proofs.TableRelated.{RelatedRow, call_row_related}
+use Rattle.es_rows.proofs.ArgumentsRelated.{argument_related, object_expected_related, BuiltInRelated, BothRow, BothEnd, call_row_related}
 use Rattle.es_rows.proofs.ObjectsRelated.{object_row_related}
 use Rattle.es_rows.proofs.ArrayLikesRelated.{array_create_related, create_index_related, is_array_value_related}
 use Rattle.es_rows.proofs.ArrayCallbacksRelated.{every_related, some_related, for_each_related, filter_related, map_related, find_related, find_index_related, reduce_related}
@@ -51,15 +50,15 @@ target_related : {R : Naming} (s t : Option Value) (f g : ℕ) → R f g → Bot
 target_related s t f g r BothNone = BothObject r
 target_related s t f g r (BothSome b) = b
 
-pub array_related : {R : Naming} (f g : ℕ) (s t : Option Value) (vs ws : List Value) → R f g → BothOption (BothValue R) s t → BothList (BothValue R) vs ws → Related R (array f s vs) (array g t ws)
+pub array_related : {R : Naming} (f g : ℕ) (s t : Option Value) → R f g → BothOption (BothValue R) s t → BuiltInRelated R (λ this arguments. array f s arguments) (λ this arguments. array g t arguments)
 unfolding array
-array_related f g s t vs ws r h c = prototype_from_related ArrayPrototype _ _ (target_related s t f g r h) (λ p q e. array_with_related vs ws p q c e)
+array_related f g s t r h this that vs ws b c = prototype_from_related ArrayPrototype _ _ (target_related s t f g r h) (λ p q e. array_with_related vs ws p q c e)
 
-pub is_array_related : {R : Naming} → RelatedRow R is_array is_array
+pub is_array_related : {R : Naming} → BuiltInRelated R is_array is_array
 unfolding is_array
 is_array_related this that vs ws b c = is_array_value_related _ _ _ _ (argument_related vs ws 0 c) (λ is. BothGive BothBoolean)
 
-pub to_string_related : {R : Naming} → IsOneToOne R → RelatedRow R to_string to_string
+pub to_string_related : {R : Naming} → IsOneToOne R → BuiltInRelated R to_string to_string
 unfolding to_string
 to_string_related one this that vs ws b c =
     object_expected_related this that _ _ b (λ m n r.
@@ -68,7 +67,12 @@ to_string_related one this that vs ws b c =
 
 -- ---- the rows
 
-pub array_row_related : {R : Naming} → IsOneToOne R → (row f g : ℕ) (s t : Option Value) → R f g → BothOption (BothValue R) s t → RelatedRow R (array_row row f s) (array_row row g t)
+pub array_row_related : {R : Naming} → IsOneToOne R → (n f g : ℕ) (s t : Option Value) → R f g → BothOption (BothValue R) s t → BuiltInRelated R (array_row n f s) (array_row n g t)
 unfolding array_row
-array_row_related one row f g s t r h this that vs ws b c = call_row_related (array_functions f s) (array_functions g t) row
-    (refl, (λ this that vs ws b c. array_related f g s t vs ws r h c), (refl, is_array_related, (refl, concat_related, (refl, every_related, (refl, fill_related, (refl, filter_related, (refl, find_related, (refl, find_index_related, (refl, for_each_related, (refl, includes_related one, (refl, index_of_related one, (refl, join_related, (refl, map_related, (refl, pop_related, (refl, push_related, (refl, reduce_related, (refl, reverse_related, (refl, shift_related, (refl, slice_related, (refl, some_related, (refl, splice_related, (refl, to_string_related one, (refl, unshift_related, tt))))))))))))))))))))))) this that vs ws b c
+array_row_related one n f g s t r h = call_row_related
+    (BothRow (array_related f g s t r h) (BothRow is_array_related (BothRow concat_related (BothRow every_related
+    (BothRow fill_related (BothRow filter_related (BothRow find_related (BothRow find_index_related (BothRow for_each_related
+    (BothRow (includes_related one) (BothRow (index_of_related one) (BothRow join_related (BothRow map_related
+    (BothRow pop_related (BothRow push_related (BothRow reduce_related (BothRow reverse_related (BothRow shift_related
+    (BothRow slice_related (BothRow some_related (BothRow splice_related (BothRow (to_string_related one)
+    (BothRow unshift_related BothEnd))))))))))))))))))))))) n

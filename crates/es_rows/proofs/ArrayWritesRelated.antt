@@ -7,9 +7,8 @@ use Rattle.es_ops.specs.Related.{Naming, BothList, BothEmpty, BothCons, BothValu
 use Rattle.es_ops.proofs.Parts.{cond_related}
 use Rattle.es_rows.specs.ArrayLikes.{Next, delete_index, set_length}
 use Rattle.es_rows.specs.ArrayWrites.{fill, pop_of, pop, give_length, push_items, push, swap_present, swap_absent, swap, reverse, shift_of, shift, move_up_all, unshift_items, unshift_of, unshift, Splicing, spliced_length, place_items, drop_end, move_down, move_up, move_rest, splice_by, delete_count, splice_of, splice}
-use Rattle.es_rows.proofs.ArgumentsRelated.{argument_related}
+use Rattle.es_rows.proofs.ArgumentsRelated.{argument_related, BuiltInRelated}
 use Rattle.es_rows.proofs.PositionsRelated.{natural, relative_position_related, count_expected_related}
-use Rattle.es_rows.proofs.TableRelated.{RelatedRow}
 use Rattle.es_rows.proofs.ArrayLikesRelated.{ThenNext, array_like_related, length_in_range_related, get_index_related, if_present_related, set_index_related, set_length_related, delete_index_related, move_index_related, each_related, each_down_related, set_items_related, result_array_related}
 use Rattle.es_rows.proofs.ArrayReadsRelated.{copy_range_related}
 
@@ -25,7 +24,7 @@ both_dropped (suc n) (v ∷ vs) (w ∷ ws) (BothCons c cs) = both_dropped n vs w
 
 -- ---- fill, pop, push
 
-pub fill_related : {R : Naming} → RelatedRow R fill fill
+pub fill_related : {R : Naming} → BuiltInRelated R fill fill
 unfolding fill
 fill_related this that vs ws b c =
     array_like_related this that _ _ b (λ m n size r i.
@@ -37,7 +36,7 @@ pop_of_related : {R : Naming} (m n size : ℕ) → R m n → size ≤ greatest �
 pop_of_related m n zero r i = set_length_related m n 0 _ _ r i (λ _. BothGive BothUndefined)
 pop_of_related m n (suc last) r i = get_index_related m n last _ _ r (λ v w b. delete_index_related m n last _ _ r (λ _. set_length_related m n last (λ _. Give v) (λ _. Give w) r (omega (arith, i)) (λ _. BothGive b)))
 
-pub pop_related : {R : Naming} → RelatedRow R pop pop
+pub pop_related : {R : Naming} → BuiltInRelated R pop pop
 unfolding pop
 pop_related this that vs ws b c = array_like_related this that _ _ b (λ m n size r i. pop_of_related m n size r i)
 
@@ -47,7 +46,7 @@ give_length_related m n size r i = set_length_related m n size _ _ r i (λ _. Bo
 push_items_related : {R : Naming} (m n size count : ℕ) (vs ws : List Value) → R m n → length vs ≤ count → BothList (BothValue R) vs ws → Related R (push_items m size count vs) (push_items n size count ws)
 push_items_related m n size count vs ws r l c = length_in_range_related (size + count) _ _ (λ j. set_items_related m n size vs ws _ _ r (omega (arith, j, l)) c (λ _. give_length_related m n (size + count) r j))
 
-pub push_related : {R : Naming} → RelatedRow R push push
+pub push_related : {R : Naming} → BuiltInRelated R push push
 unfolding push
 push_related this that vs ws b c = array_like_related this that _ _ b (λ m n size r i. rw (both_length c) (push_items_related m n size (length ws) vs ws r (let e = both_length c in omega (arith, e)) c))
 
@@ -65,7 +64,7 @@ swap_absent_related m n lower upper k l r i h = if_present_related m n upper _ _
 swap_related : {R : Naming} (m n lower upper : ℕ) (k l : Next) → R m n → lower ≤ greatest → upper ≤ greatest → ThenNext R k l → Related R (swap m lower upper k) (swap n lower upper l)
 swap_related m n lower upper k l r i j h = if_present_related m n lower _ _ _ _ r (λ v w b. swap_present_related m n lower upper v w k l r i j b h) (λ _. swap_absent_related m n lower upper k l r i h)
 
-pub reverse_related : {R : Naming} → RelatedRow R reverse reverse
+pub reverse_related : {R : Naming} → BuiltInRelated R reverse reverse
 unfolding reverse
 reverse_related this that vs ws b c =
     array_like_related this that _ _ b (λ m n size r i.
@@ -84,7 +83,7 @@ shift_of_related m n (suc last) r i =
     delete_last : ℕ → Value → Act
     delete_last o v = delete_index o last (λ _. set_length o last (λ _. Give v))
 
-pub shift_related : {R : Naming} → RelatedRow R shift shift
+pub shift_related : {R : Naming} → BuiltInRelated R shift shift
 unfolding shift
 shift_related this that vs ws b c = array_like_related this that _ _ b (λ m n size r i. shift_of_related m n size r i)
 
@@ -100,7 +99,7 @@ unshift_of_related : {R : Naming} (vs ws : List Value) (m n size : ℕ) → Both
 unshift_of_related vs ws m n size BothEmpty r i = give_length_related m n size r i
 unshift_of_related (v ∷ vs) (w ∷ ws) m n size (BothCons c cs) r i = rw (both_length (BothCons c cs)) (unshift_items_related m n size (length (w ∷ ws)) (v ∷ vs) (w ∷ ws) r (let e = both_length cs in omega (arith, e)) (BothCons c cs))
 
-pub unshift_related : {R : Naming} → RelatedRow R unshift unshift
+pub unshift_related : {R : Naming} → BuiltInRelated R unshift unshift
 unfolding unshift
 unshift_related this that vs ws b c = array_like_related this that _ _ b (λ m n size r i. unshift_of_related vs ws m n size c r i)
 
@@ -162,6 +161,6 @@ splice_of_related vs ws m n size c r i =
     let items = both_dropped 2 vs ws c in let e = both_length items in
     splice_by_related m n size start deleted (length (drop 2 vs)) (length (drop 2 ws)) (drop 2 vs) (drop 2 ws) e r (omega (arith, f, g)) i (omega (arith, e)) items))
 
-pub splice_related : {R : Naming} → RelatedRow R splice splice
+pub splice_related : {R : Naming} → BuiltInRelated R splice splice
 unfolding splice
 splice_related this that vs ws b c = array_like_related this that _ _ b (λ m n size r i. splice_of_related vs ws m n size c r i)

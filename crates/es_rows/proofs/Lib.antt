@@ -1,5 +1,4 @@
 pub mod ArgumentsRelated
-pub mod TableRelated
 pub mod PositionsRelated
 pub mod TextUnits
 pub mod ArrayLikesRelated
