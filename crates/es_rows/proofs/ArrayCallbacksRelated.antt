@@ -1,14 +1,13 @@
 -- The methods of Array.prototype that call a function for each item are the same but for the numbers of things.
-use Rattle.std.proofs.Common.{◌≡◌, ℕ, zero, suc, ◌+◌, ◌-◌, ◌≤◌, Bool, true, false, cond, List, [], ◌∷◌, pos, negsuc, refl, arith, lit≤}
+use Rattle.std.proofs.Common.{◌≡◌, ℕ, suc, ◌+◌, ◌-◌, ◌≤◌, Bool, true, false, cond, List, ◌∷◌, pos, negsuc, refl, arith, lit≤}
 use Rattle.js_value.specs.Number.{greatest}
-use Rattle.js_value.specs.Value.{Value, Undefined, Boolean, Number, Object}
+use Rattle.js_value.specs.Value.{Value, Undefined, Number}
 use Rattle.es_ops.specs.Messages.{EmptyArray}
 use Rattle.es_ops.specs.Conversions.{to_boolean}
-use Rattle.es_ops.specs.Act.{Act, Give}
+use Rattle.es_ops.specs.Act.{Act}
 use Rattle.es_ops.specs.Related.{Naming, BothList, BothEmpty, BothCons, BothNone, BothValue, BothUndefined, BothNull, BothBoolean, BothNumber, BothString, BothObject, Related, BothGive, BothCall, Then}
 use Rattle.es_ops.proofs.Parts.{cond_related}
 use Rattle.es_ops.proofs.ReadsRelated.{raise_related}
-use Rattle.es_rows.specs.Arguments.{first}
 use Rattle.es_rows.specs.ArrayLikes.{create_index}
 use Rattle.es_rows.specs.ArrayCallbacks.{Visitor, visit, visiting, every, some, for_each, keep, filter, map, find_via_predicate, find, find_index, reduce_from, reduce_from_first, reduce_by, reduce}
 use Rattle.es_rows.proofs.ArgumentsRelated.{argument_related, callable_expected_related, BuiltInRelated}

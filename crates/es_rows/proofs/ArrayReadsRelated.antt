@@ -1,12 +1,11 @@
 -- The methods of Array.prototype that read the receiver are the same but for the numbers of things.
-use Rattle.std.proofs.Common.{◌≡◌, ℕ, zero, suc, ◌+◌, ◌-◌, ◌≤◌, Bool, true, false, cond, nat_eq, List, [], ◌∷◌, ◌++◌, ℤ, pos, negsuc, refl, arith, lit≤, codes}
+use Rattle.std.proofs.Common.{◌≡◌, ℕ, zero, suc, ◌+◌, ◌-◌, ◌≤◌, Bool, true, false, cond, nat_eq, List, [], ◌∷◌, ◌++◌, pos, negsuc, refl, arith, lit≤, codes}
 use Rattle.js_value.specs.Number.{greatest}
-use Rattle.js_value.specs.Value.{Value, Undefined, Null, Boolean, Number, Object, Text}
+use Rattle.js_value.specs.Value.{Value, Boolean, Number, Text}
 use Rattle.js_value.specs.Order.{AreUnits, IsString}
 use Rattle.js_value.proofs.Profile.{string_tested}
 use Rattle.es_ops.specs.Equality.{same_value_zero, is_strictly_equal}
 use Rattle.es_ops.specs.Act.{Act, Give, Turn}
-use Rattle.es_ops.specs.Errors.{make_text}
 use Rattle.es_ops.specs.Related.{Naming, BothList, BothEmpty, BothCons, BothValue, BothUndefined, BothNull, BothBoolean, BothNumber, BothString, BothObject, Related, BothGive, BothTurn, Then, ThenSame, IsOneToOne}
 use Rattle.es_ops.proofs.Parts.{cond_related}
 use Rattle.es_ops.proofs.ReadsRelated.{made_text_related, units_joined, text_expected_related}

@@ -1,15 +1,14 @@
 -- The functions of Array are the same but for the numbers of things.
-use Rattle.std.proofs.Common.{◌≡◌, ℕ, suc, ◌+◌, ◌≤◌, List, [], ◌∷◌, length, pos, negsuc, Option, None, Some, refl, arith, lit≤, codes}
+use Rattle.std.proofs.Common.{◌≡◌, ℕ, suc, ◌+◌, ◌≤◌, List, [], ◌∷◌, length, pos, negsuc, Option, None, arith, codes}
 use Rattle.js_value.specs.Number.{greatest}
-use Rattle.js_value.specs.Value.{Value, Number, Object, Named}
+use Rattle.js_value.specs.Value.{Value, Named}
 use Rattle.es_ops.specs.Intrinsics.{ArrayPrototype}
 use Rattle.es_ops.specs.Messages.{InvalidArrayLength}
-use Rattle.es_ops.specs.Act.{Act, Give}
 use Rattle.es_ops.specs.Related.{Naming, BothOption, BothNone, BothSome, BothList, BothEmpty, BothCons, BothValue, BothUndefined, BothNull, BothBoolean, BothNumber, BothString, BothObject, Related, BothGive, BothCall, IsOneToOne}
 use Rattle.es_ops.proofs.Parts.{cond_related}
 use Rattle.es_ops.proofs.ReadsRelated.{raise_related, is_callable_related, get_related}
 use Rattle.es_ops.proofs.CallingRelated.{prototype_from_related}
-use Rattle.es_rows.specs.Array.{target_or, create_items, array_of, array_with, array, is_array, to_string, array_functions, array_row}
+use Rattle.es_rows.specs.Array.{target_or, create_items, array_of, array_with, array, is_array, to_string, array_row}
 use Rattle.es_rows.proofs.ArgumentsRelated.{argument_related, object_expected_related, BuiltInRelated, BothRow, BothEnd, call_row_related}
 use Rattle.es_rows.proofs.ObjectsRelated.{object_row_related}
 use Rattle.es_rows.proofs.ArrayLikesRelated.{array_create_related, create_index_related, is_array_value_related}

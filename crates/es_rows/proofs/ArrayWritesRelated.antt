@@ -1,12 +1,12 @@
 -- The methods of Array.prototype that change the receiver are the same but for the numbers of things.
-use Rattle.std.proofs.Common.{◌≡◌, ℕ, zero, suc, ◌+◌, ◌-◌, ◌/◌, ◌≤◌, min, Bool, true, false, cond, nat_lt, List, [], ◌∷◌, length, drop, pos, refl, ap, arith, lit≤}
+use Rattle.std.proofs.Common.{◌≡◌, ℕ, zero, suc, ◌+◌, ◌-◌, ◌/◌, ◌≤◌, min, nat_lt, List, ◌∷◌, length, drop, refl, ap, arith, lit≤}
 use Rattle.js_value.specs.Number.{greatest}
-use Rattle.js_value.specs.Value.{Value, Undefined, Number, Object}
+use Rattle.js_value.specs.Value.{Value}
 use Rattle.es_ops.specs.Act.{Act, Give}
-use Rattle.es_ops.specs.Related.{Naming, BothList, BothEmpty, BothCons, BothValue, BothUndefined, BothNumber, BothObject, Related, BothGive, Then}
+use Rattle.es_ops.specs.Related.{Naming, BothList, BothEmpty, BothCons, BothValue, BothUndefined, BothNumber, BothObject, Related, BothGive}
 use Rattle.es_ops.proofs.Parts.{cond_related}
 use Rattle.es_rows.specs.ArrayLikes.{Next, delete_index, set_length}
-use Rattle.es_rows.specs.ArrayWrites.{fill, pop_of, pop, give_length, push_items, push, swap_present, swap_absent, swap, reverse, shift_of, shift, move_up_all, unshift_items, unshift_of, unshift, Splicing, spliced_length, place_items, drop_end, move_down, move_up, move_rest, splice_by, delete_count, splice_of, splice}
+use Rattle.es_rows.specs.ArrayWrites.{fill, pop_of, pop, give_length, push_items, push, swap_present, swap_absent, swap, reverse, shift_of, shift, move_up_all, unshift_items, unshift_of, unshift, Splicing, place_items, drop_end, move_down, move_up, move_rest, splice_by, delete_count, splice_of, splice}
 use Rattle.es_rows.proofs.ArgumentsRelated.{argument_related, BuiltInRelated}
 use Rattle.es_rows.proofs.PositionsRelated.{natural, relative_position_related, count_expected_related}
 use Rattle.es_rows.proofs.ArrayLikesRelated.{ThenNext, array_like_related, length_in_range_related, get_index_related, if_present_related, set_index_related, set_length_related, delete_index_related, move_index_related, each_related, each_down_related, set_items_related, result_array_related}

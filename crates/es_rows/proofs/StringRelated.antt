@@ -1,7 +1,7 @@
 -- The functions of String are the same but for the numbers of things.
-use Rattle.std.proofs.Common.{◌≡◌, ℕ, suc, ◌-◌, ◌*◌, ◌≤◌, ◌<◌, Bool, true, false, cond, min, max, nat_le, nat_lt, List, [], ◌∷◌, ◌++◌, length, take, drop, ℤ, pos, negsuc, Option, Some, None, is_some, IfSome, slice_get, refl, arith, lit≤, codes}
+use Rattle.std.proofs.Common.{ℕ, ◌-◌, ◌*◌, ◌≤◌, ◌<◌, min, max, nat_le, nat_lt, List, [], ◌∷◌, ◌++◌, length, take, ℤ, pos, negsuc, Option, Some, None, is_some, IfSome, refl, arith, lit≤, codes}
 use Rattle.js_value.specs.Number.{greatest}
-use Rattle.js_value.specs.Value.{Value, Undefined, Null, Boolean, Number, String, Object, Text}
+use Rattle.js_value.specs.Value.{Value, Boolean, Object, Text}
 use Rattle.js_value.specs.Order.{AreUnits, IsString}
 use Rattle.js_value.specs.Word.{residue}
 use Rattle.js_value.specs.NumberText.{text_of_number}
@@ -11,16 +11,16 @@ use Rattle.es_ops.specs.Messages.{NumberOutOfRange, StringTooLong, InvalidArgume
 use Rattle.es_ops.specs.Act.{Act, Give}
 use Rattle.es_ops.specs.Errors.{make_text, longest_text}
 use Rattle.es_ops.specs.Making.{make_array}
-use Rattle.es_ops.specs.Related.{Naming, BothList, BothEmpty, BothCons, BothOption, BothValue, BothUndefined, BothNull, BothBoolean, BothNumber, BothString, BothObject, Related, BothGive, Then, ThenSame}
+use Rattle.es_ops.specs.Related.{Naming, BothList, BothEmpty, BothCons, BothValue, BothUndefined, BothNull, BothBoolean, BothNumber, BothString, BothObject, Related, BothGive, Then, ThenSame}
 use Rattle.es_ops.proofs.Parts.{cond_related}
 use Rattle.es_ops.proofs.ReadsRelated.{raise_related, made_text_related, units_joined, number_expected_related, text_expected_related}
 use Rattle.es_ops.proofs.MakingRelated.{make_array_related, append_related}
 use Rattle.es_rows.specs.Arguments.{first, position_or}
-use Rattle.es_rows.specs.Texts.{substring, begins_with, string_index_of, first_code_point, copies, filled, pieces_of}
-use Rattle.es_rows.specs.String.{string_of, string, append_units, from_char_code, this_text, unit_at, text_of_unit, char_at, unit_or_raise, char_code_at, from_unit, number_or_undefined, code_point_at, ends_with_at, ends_with, searched, includes, index_or_minus_one, index_of, starts_with, Placement, AtStart, AtEnd, joined_with, pad_with, fill_expected, pad, pad_end, pad_start, repeated, repeat, slice, substring_between, append_texts, limit_expected, pieces_by, split_by, split, trim, to_string, string_functions, string_row}
+use Rattle.es_rows.specs.Texts.{substring, string_index_of, first_code_point, copies, filled, pieces_of}
+use Rattle.es_rows.specs.String.{string_of, string, append_units, from_char_code, this_text, unit_at, text_of_unit, char_at, unit_or_raise, char_code_at, from_unit, number_or_undefined, code_point_at, ends_with, searched, includes, index_or_minus_one, index_of, starts_with, Placement, AtStart, AtEnd, joined_with, pad_with, fill_expected, pad, pad_end, pad_start, repeated, repeat, slice, substring_between, append_texts, limit_expected, split_by, split, trim, to_string, string_row}
 use Rattle.es_rows.proofs.ArgumentsRelated.{argument_related, position_or_related, BuiltInRelated, BothRow, BothEnd, call_row_related}
 use Rattle.es_rows.proofs.PositionsRelated.{natural, clamped_position_related, relative_position_related, count_expected_related}
-use Rattle.es_rows.proofs.TextUnits.{units_taken, units_dropped, units_of_part, units_copied, units_filled, units_from_start, units_to_end, AreTexts, texts_taken, texts_of_pieces, unit_of_number, string_index_bound, code_point_bound}
+use Rattle.es_rows.proofs.TextUnits.{units_dropped, units_of_part, units_copied, units_filled, units_from_start, units_to_end, AreTexts, texts_taken, texts_of_pieces, unit_of_number, string_index_bound, code_point_bound}
 
 given : {R : Naming} → Then R (BothValue R) Give Give
 given v w b = BothGive b
