@@ -1,19 +1,17 @@
 -- The methods of Array.prototype that call a function for each item are the same but for the numbers of things.
-use Rattle.std.proofs.Common.{◌≡◌, ℕ, zero, suc, ◌+◌, ◌-◌, ◌≤◌, Bool, true, false, cond, List, [], ◌∷◌, pos, negsuc, refl, arith, lit≤}
+use Rattle.std.proofs.Common.{◌≡◌, ℕ, suc, ◌+◌, ◌-◌, ◌≤◌, Bool, true, false, cond, List, ◌∷◌, pos, negsuc, refl, arith, lit≤}
 use Rattle.js_value.specs.Number.{greatest}
-use Rattle.js_value.specs.Value.{Value, Undefined, Boolean, Number, Object}
+use Rattle.js_value.specs.Value.{Value, Undefined, Number}
 use Rattle.es_ops.specs.Messages.{EmptyArray}
 use Rattle.es_ops.specs.Conversions.{to_boolean}
-use Rattle.es_ops.specs.Act.{Act, Give}
+use Rattle.es_ops.specs.Act.{Act}
 use Rattle.es_ops.specs.Related.{Naming, BothList, BothEmpty, BothCons, BothNone, BothValue, BothUndefined, BothNull, BothBoolean, BothNumber, BothString, BothObject, Related, BothGive, BothCall, Then}
 use Rattle.es_ops.proofs.Parts.{cond_related}
 use Rattle.es_ops.proofs.ReadsRelated.{raise_related}
-use Rattle.es_rows.specs.Arguments.{first}
 use Rattle.es_rows.specs.ArrayLikes.{create_index}
 use Rattle.es_rows.specs.ArrayCallbacks.{Visitor, visit, visiting, every, some, for_each, keep, filter, map, find_via_predicate, find, find_index, reduce_from, reduce_from_first, reduce_by, reduce}
-use Rattle.es_rows.proofs.ArgumentsRelated.{argument_related, callable_expected_related}
+use Rattle.es_rows.proofs.ArgumentsRelated.{argument_related, callable_expected_related, BuiltInRelated}
 use Rattle.es_rows.proofs.PositionsRelated.{natural}
-use Rattle.es_rows.proofs.TableRelated.{RelatedRow}
 use Rattle.es_rows.proofs.ArrayLikesRelated.{array_like_related, get_index_related, create_index_related, each_related, each_present_related, each_present_with_related, result_array_related}
 
 record BothVisitor (R : Naming) (f g : Visitor) : Type 0 where
@@ -41,19 +39,19 @@ boolean_same (BothObject r) = refl
 test_related : {R : Naming} (v w : Value) (a b c d : Act) → BothValue R v w → Related R a c → Related R b d → Related R (cond (to_boolean v) a b) (cond (to_boolean w) c d)
 test_related v w a b c d e h i = rw (boolean_same e) (cond_related (to_boolean w) _ _ _ _ h i)
 
-pub every_related : {R : Naming} → RelatedRow R every every
+pub every_related : {R : Naming} → BuiltInRelated R every every
 unfolding every
 every_related this that vs ws b c = visiting_related this that vs ws _ _ b c (λ f g size p i.
     each_present_related f.object g.object greatest _ _ _ _ p.object (λ at v w k l j d u. visit_related f g at v w _ _ p (omega (arith, j)) d (λ x y e. test_related x y _ _ _ _ e (u tt) (BothGive (BothBoolean {b = false}))))
     (λ u. BothGive (BothBoolean {b = true})) size 0 (omega (arith, i)))
 
-pub some_related : {R : Naming} → RelatedRow R some some
+pub some_related : {R : Naming} → BuiltInRelated R some some
 unfolding some
 some_related this that vs ws b c = visiting_related this that vs ws _ _ b c (λ f g size p i.
     each_present_related f.object g.object greatest _ _ _ _ p.object (λ at v w k l j d u. visit_related f g at v w _ _ p (omega (arith, j)) d (λ x y e. test_related x y _ _ _ _ e (BothGive (BothBoolean {b = true})) (u tt)))
     (λ u. BothGive (BothBoolean {b = false})) size 0 (omega (arith, i)))
 
-pub for_each_related : {R : Naming} → RelatedRow R for_each for_each
+pub for_each_related : {R : Naming} → BuiltInRelated R for_each for_each
 unfolding for_each
 for_each_related this that vs ws b c = visiting_related this that vs ws _ _ b c (λ f g size p i.
     each_present_related f.object g.object greatest _ _ _ _ p.object (λ at v w k l j d u. visit_related f g at v w (λ x. k tt) (λ x. l tt) p (omega (arith, j)) d (λ x y e. u tt))
@@ -68,7 +66,7 @@ keep_related m n count x y v w selected k l r b c h = let bound = b.1 in rw b.0 
     (create_index_related m n y v w (λ _. k (suc y)) (λ _. l (suc y)) r (omega (arith, bound)) c (λ u. h (suc y) (suc y) (refl, omega (arith, bound))))
     (h y y (refl, omega (arith, bound))))
 
-pub filter_related : {R : Naming} → RelatedRow R filter filter
+pub filter_related : {R : Naming} → BuiltInRelated R filter filter
 unfolding filter
 filter_related this that vs ws b c = visiting_related this that vs ws _ _ b c (λ f g size p i.
     result_array_related 0 _ _ (λ m n r.
@@ -76,7 +74,7 @@ filter_related this that vs ws b c = visiting_related this that vs ws _ _ b c (�
     (λ count at v w x y k l j d e u. visit_related f g at v w (λ test. keep m x v (to_boolean test) k) (λ test. keep n y w (to_boolean test) l) p (omega (arith, j)) d (λ z t q. rw (boolean_same q) (keep_related m n count x y v w (to_boolean t) k l r e d u)))
     (λ x y e. BothGive (BothObject r)) size 0 0 0 (omega (arith, i)) (refl, omega (arith, i))))
 
-pub map_related : {R : Naming} → RelatedRow R map map
+pub map_related : {R : Naming} → BuiltInRelated R map map
 unfolding map
 map_related this that vs ws b c = visiting_related this that vs ws _ _ b c (λ f g size p i.
     result_array_related size _ _ (λ m n r.
@@ -88,11 +86,11 @@ find_via_related found otherwise h o this that vs ws b c = visiting_related this
     each_related greatest _ _ _ _ (λ at k l j u. get_index_related f.object g.object at _ _ p.object (λ v w d. visit_related f g at v w _ _ p (omega (arith, j)) d (λ x y e. test_related x y _ _ _ _ e (BothGive (h at v w (omega (arith, j)) d)) (u tt))))
     (λ u. BothGive o) size 0 (omega (arith, i)) tt)
 
-pub find_related : {R : Naming} → RelatedRow R find find
+pub find_related : {R : Naming} → BuiltInRelated R find find
 unfolding find
 find_related this that vs ws b c = find_via_related (λ at v. v) Undefined (λ at v w i d. d) BothUndefined this that vs ws b c
 
-pub find_index_related : {R : Naming} → RelatedRow R find_index find_index
+pub find_index_related : {R : Naming} → BuiltInRelated R find_index find_index
 unfolding find_index
 find_index_related this that vs ws b c = find_via_related (λ at v. Number (pos at)) (Number (negsuc 0)) (λ at v w i d. BothNumber (natural at i)) (BothNumber (record { bound = lit≤ tt })) this that vs ws b c
 
@@ -113,7 +111,7 @@ reduce_by_related vs ws m n size BothEmpty r i = reduce_first_related Undefined 
 reduce_by_related (v ∷ vs) (w ∷ ws) m n size (BothCons c BothEmpty) r i = reduce_first_related v w m n size c r i
 reduce_by_related (v ∷ x ∷ vs) (w ∷ y ∷ ws) m n size (BothCons c (BothCons d ds)) r i = reduce_from_related v w m n size 0 x y c r (omega (arith, i)) d
 
-pub reduce_related : {R : Naming} → RelatedRow R reduce reduce
+pub reduce_related : {R : Naming} → BuiltInRelated R reduce reduce
 unfolding reduce
 reduce_related this that vs ws b c =
     array_like_related this that _ _ b (λ m n size r i. callable_expected_related _ _ _ _ (argument_related vs ws 0 c) (reduce_by_related vs ws m n size c r i))

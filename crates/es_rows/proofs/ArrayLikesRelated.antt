@@ -1,8 +1,8 @@
 -- What the rows of Array share is the same but for the numbers of things.
-use Rattle.std.proofs.Common.{◌≡◌, ℕ, zero, suc, ◌+◌, ◌≤◌, Bool, true, false, cond, nat_le, nat_lt, List, [], ◌∷◌, length, ℤ, pos, negsuc, Option, Some, refl, arith, lit≤, codes}
+use Rattle.std.proofs.Common.{◌≡◌, ℕ, zero, suc, ◌+◌, ◌≤◌, Bool, true, false, cond, nat_le, nat_lt, List, ◌∷◌, length, pos, refl, arith}
 use Rattle.std.proofs.lemmas.Bool.Decides.{nat_tests}
-use Rattle.js_value.specs.Number.{IsNumber, greatest}
-use Rattle.js_value.specs.Value.{Value, Undefined, Number, Object, Key, Index, Named}
+use Rattle.js_value.specs.Number.{greatest}
+use Rattle.js_value.specs.Value.{Value, Object, Named}
 use Rattle.js_value.specs.Store.{Class, is_array, AnObject, length_name}
 use Rattle.js_value.specs.Order.{IsKey, IsOrderly}
 use Rattle.js_value.specs.Literal.{digits_number}
@@ -10,10 +10,10 @@ use Rattle.js_value.proofs.Keys.{key_of_number_is_key}
 use Rattle.js_value.proofs.Profile.{string_tested}
 use Rattle.es_ops.specs.Messages.{Message, NumberOutOfRange, InvalidArrayLength}
 use Rattle.es_ops.specs.Events.{Make}
-use Rattle.es_ops.specs.Act.{Act, Turn, Do}
+use Rattle.es_ops.specs.Act.{Act, Do}
 use Rattle.es_ops.specs.Errors.{raise}
 use Rattle.es_ops.specs.Conversions.{number_expected}
-use Rattle.es_ops.specs.Related.{Naming, BothList, BothEmpty, BothCons, BothValue, BothUndefined, BothNull, BothBoolean, BothNumber, BothString, BothObject, BothSome, BothClass, BothOrdinary, BothArray, BothScript, BothBuiltIn, BothResolve, BothReject, BothError, BothPromise, BothAnObject, Related, BothTurn, Then, ThenSame}
+use Rattle.es_ops.specs.Related.{Naming, BothList, BothEmpty, BothCons, BothValue, BothUndefined, BothNull, BothBoolean, BothNumber, BothString, BothObject, BothSome, BothClass, BothOrdinary, BothArray, BothScript, BothBuiltIn, BothResolve, BothReject, BothError, BothPromise, BothAnObject, Related, BothTurn, Then}
 use Rattle.es_ops.proofs.Acting.{ask_class, ask_intrinsic, do_make, do_apply}
 use Rattle.es_ops.proofs.Parts.{cond_related}
 use Rattle.es_ops.proofs.ReadsRelated.{raise_related, get_related, has_property_related, number_expected_related}

@@ -3,6 +3,7 @@ use Rattle.std.proofs.Common.{◌≡◌, ℕ, ◌-◌, Bool, true, false, cond, 
 use Rattle.js_value.specs.Value.{Value, Undefined, Null, Boolean, Number, String, Object, Text}
 use Rattle.js_value.specs.Store.{Thing, AnObject, Class, Array, BuiltInFunction, Property, Content, Data, Accessor}
 use Rattle.es_ops.specs.State.{State, some_slots}
+use Rattle.es_ops.specs.Ledger.{Budget}
 use Rattle.es_ops.specs.Messages.{Message, NumberOutOfRange, InvalidArrayLength, EmptyArray, NotAFunction, NotWritable, NotDeletable, NotAnObject, PrimitiveExpected, text_of_message}
 use Rattle.es_ops.specs.Errors.{error_record}
 use Rattle.es_ops.specs.Act.{Ran, Ends, Calls, NormalCompletion, ThrowCompletion, run}
@@ -14,7 +15,7 @@ use Rattle.es_rows.specs.ArrayWrites.{fill, pop, push, reverse, shift, splice, u
 use Rattle.es_rows.specs.Array.{array, is_array, to_string}
 use Rattle.es_rows.specs.Object.{to_string as object_to_string}
 use Rattle.es_rows.specs.BuiltIns.{row}
-use Rattle.es_rows.proofs.Samples.{plain, fixed, ordinary, an_object, array_of, function, state_of, came, Came, Gave, Threw, thing_after, used_after, meter_after, computing}
+use Rattle.es_rows.proofs.Samples.{plain, fixed, ordinary, an_object, array_of, function, state_of, came, Came, Gave, Threw, Stopped, thing_after, used_after, meter_after, computing}
 
 number : ℕ → Value
 number n = Number (pos n)
@@ -147,6 +148,20 @@ indices : map (λ vs. result 80 (Object 13) vs) ((Undefined ∷ []) ∷ (text (c
     ≡ map Gave (Number (negsuc 0) ∷ number 1 ∷ number 1 ∷ Number (negsuc 0) ∷ Number (negsuc 0) ∷ [])
 unfolding arrays_computing
 indices = refl
+
+-- two turns, where neither item is the one that is looked for
+not_among_two : let r = run calls (row 80 14 None (Object 13) (text (codes "c") ∷ [])) (state_of (array_of ((0, plain (text (codes "a"))) ∷ (1, plain (text (codes "b"))) ∷ []) 2 ∷ [])) in
+    came r ∷ Gave (number (100 - meter_after r)) ∷ [] ≡ Gave (Number (negsuc 0)) ∷ Gave (number 2) ∷ []
+unfolding arrays_computing
+not_among_two = refl
+
+-- a walk over an array of the greatest length ends with the meter
+longest_array : List Came
+longest_array = map (λ n. came (run calls (row n 14 None (Object 13) (Object 14 ∷ [])) (state_of (array_of [] 4294967295 ∷ function 0 ∷ [])))) (73 ∷ 74 ∷ 75 ∷ 78 ∷ 82 ∷ 86 ∷ 87 ∷ 92 ∷ [])
+
+ends_with_the_meter : longest_array ≡ replicate 8 (Stopped Budget)
+unfolding arrays_computing longest_array
+ends_with_the_meter = refl
 
 search_turns : turns 80 (Object 13) (text (codes "b") ∷ []) ∷ turns 80 (Object 13) (Undefined ∷ []) ∷ turns 79 (Object 13) (text (codes "b") ∷ number 2 ∷ []) ∷ turns 79 (Object 13) (Undefined ∷ []) ∷ [] ≡ 2 ∷ 4 ∷ 2 ∷ 3 ∷ []
 unfolding arrays_computing

@@ -1,5 +1,4 @@
 pub mod ArgumentsRelated
-pub mod TableRelated
 pub mod PositionsRelated
 pub mod TextUnits
 pub mod ArrayLikesRelated
@@ -11,6 +10,9 @@ pub mod NumbersRelated
 pub mod RealmLaws
 pub mod StringRelated
 pub mod ArrayCallbacksRelated
+pub mod ArrayReadsRelated
+pub mod ArrayWritesRelated
+pub mod ArrayRelated
 mod Samples
 mod RealmRows
 mod ObjectRows

@@ -1,5 +1,5 @@
 -- Positions and counts are the same on both sides, and within their bounds.
-use Rattle.std.proofs.Common.{ℕ, suc, ◌-◌, ◌≤◌, min, ℤ, pos, negsuc, arith, lit≤}
+use Rattle.std.proofs.Common.{ℕ, ◌≤◌, ℤ, pos, negsuc, arith, lit≤}
 use Rattle.js_value.specs.Number.{IsNumber, greatest}
 use Rattle.js_value.specs.Value.{Value}
 use Rattle.es_ops.specs.Act.{Act}

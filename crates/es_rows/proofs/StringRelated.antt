@@ -1,7 +1,7 @@
 -- The functions of String are the same but for the numbers of things.
-use Rattle.std.proofs.Common.{◌≡◌, ℕ, suc, ◌-◌, ◌*◌, ◌≤◌, ◌<◌, Bool, true, false, cond, min, max, nat_le, nat_lt, List, [], ◌∷◌, ◌++◌, length, take, drop, ℤ, pos, negsuc, Option, Some, None, is_some, IfSome, slice_get, refl, arith, lit≤, codes}
+use Rattle.std.proofs.Common.{ℕ, ◌-◌, ◌*◌, ◌≤◌, ◌<◌, min, max, nat_le, nat_lt, List, [], ◌∷◌, ◌++◌, length, take, ℤ, pos, negsuc, Option, Some, None, is_some, IfSome, refl, arith, lit≤, codes}
 use Rattle.js_value.specs.Number.{greatest}
-use Rattle.js_value.specs.Value.{Value, Undefined, Null, Boolean, Number, String, Object, Text}
+use Rattle.js_value.specs.Value.{Value, Boolean, Object, Text}
 use Rattle.js_value.specs.Order.{AreUnits, IsString}
 use Rattle.js_value.specs.Word.{residue}
 use Rattle.js_value.specs.NumberText.{text_of_number}
@@ -11,17 +11,16 @@ use Rattle.es_ops.specs.Messages.{NumberOutOfRange, StringTooLong, InvalidArgume
 use Rattle.es_ops.specs.Act.{Act, Give}
 use Rattle.es_ops.specs.Errors.{make_text, longest_text}
 use Rattle.es_ops.specs.Making.{make_array}
-use Rattle.es_ops.specs.Related.{Naming, BothList, BothEmpty, BothCons, BothOption, BothValue, BothUndefined, BothNull, BothBoolean, BothNumber, BothString, BothObject, Related, BothGive, Then, ThenSame}
+use Rattle.es_ops.specs.Related.{Naming, BothList, BothEmpty, BothCons, BothValue, BothUndefined, BothNull, BothBoolean, BothNumber, BothString, BothObject, Related, BothGive, Then, ThenSame}
 use Rattle.es_ops.proofs.Parts.{cond_related}
 use Rattle.es_ops.proofs.ReadsRelated.{raise_related, made_text_related, units_joined, number_expected_related, text_expected_related}
 use Rattle.es_ops.proofs.MakingRelated.{make_array_related, append_related}
 use Rattle.es_rows.specs.Arguments.{first, position_or}
-use Rattle.es_rows.specs.Texts.{substring, begins_with, string_index_of, first_code_point, copies, filled, pieces_of}
-use Rattle.es_rows.specs.String.{string_of, string, append_units, from_char_code, this_text, unit_at, text_of_unit, char_at, unit_or_raise, char_code_at, from_unit, number_or_undefined, code_point_at, ends_with_at, ends_with, searched, includes, index_or_minus_one, index_of, starts_with, Placement, AtStart, AtEnd, joined_with, pad_with, fill_expected, pad, pad_end, pad_start, repeated, repeat, slice, substring_between, append_texts, limit_expected, pieces_by, split_by, split, trim, to_string, string_functions, string_row}
-use Rattle.es_rows.proofs.ArgumentsRelated.{argument_related, position_or_related}
+use Rattle.es_rows.specs.Texts.{substring, string_index_of, first_code_point, copies, filled, pieces_of}
+use Rattle.es_rows.specs.String.{string_of, string, append_units, from_char_code, this_text, unit_at, text_of_unit, char_at, unit_or_raise, char_code_at, from_unit, number_or_undefined, code_point_at, ends_with, searched, includes, index_or_minus_one, index_of, starts_with, Placement, AtStart, AtEnd, joined_with, pad_with, fill_expected, pad, pad_end, pad_start, repeated, repeat, slice, substring_between, append_texts, limit_expected, split_by, split, trim, to_string, string_row}
+use Rattle.es_rows.proofs.ArgumentsRelated.{argument_related, position_or_related, BuiltInRelated, BothRow, BothEnd, call_row_related}
 use Rattle.es_rows.proofs.PositionsRelated.{natural, clamped_position_related, relative_position_related, count_expected_related}
-use Rattle.es_rows.proofs.TableRelated.{RelatedRow, call_row_related}
-use Rattle.es_rows.proofs.TextUnits.{units_taken, units_dropped, units_of_part, units_copied, units_filled, units_from_start, units_to_end, AreTexts, texts_taken, texts_of_pieces, unit_of_number, string_index_bound, code_point_bound}
+use Rattle.es_rows.proofs.TextUnits.{units_dropped, units_of_part, units_copied, units_filled, units_from_start, units_to_end, AreTexts, texts_taken, texts_of_pieces, unit_of_number, string_index_bound, code_point_bound}
 
 given : {R : Naming} → Then R (BothValue R) Give Give
 given v w b = BothGive b
@@ -39,7 +38,7 @@ string_of_related (BothNumber {n = n} i) = let s = text_of_number_is_string n in
 string_of_related (BothString i) = text_expected_related _ _ _ _ (BothString i) (λ t i. BothGive (BothString i))
 string_of_related (BothObject r) = text_expected_related _ _ _ _ (BothObject r) (λ t i. BothGive (BothString i))
 
-pub string_related : {R : Naming} → RelatedRow R string string
+pub string_related : {R : Naming} → BuiltInRelated R string string
 unfolding string
 string_related this that vs ws b BothEmpty = BothGive (BothString (string_tested [] refl))
 string_related this that (v ∷ vs) (w ∷ ws) b (BothCons c cs) = string_of_related c
@@ -49,7 +48,7 @@ append_units_related vs ws before BothEmpty h = made before h
 append_units_related (v ∷ vs) (w ∷ ws) before (BothCons c cs) h =
     number_expected_related v w _ _ c (λ n i. append_units_related vs ws (before ++ residue n 65536 ∷ []) cs (units_joined before (residue n 65536 ∷ []) h (unit_of_number n, tt)))
 
-pub from_char_code_related : {R : Naming} → RelatedRow R from_char_code from_char_code
+pub from_char_code_related : {R : Naming} → BuiltInRelated R from_char_code from_char_code
 unfolding from_char_code
 from_char_code_related this that vs ws b c = append_units_related vs ws [] c tt
 
@@ -78,7 +77,7 @@ unit_text : (o : Option ℕ) → IfSome o (λ u. u < 65536) → AreUnits (text_o
 unit_text None h = tt
 unit_text (Some u) h = (h, tt)
 
-pub char_at_related : {R : Naming} → RelatedRow R char_at char_at
+pub char_at_related : {R : Naming} → BuiltInRelated R char_at char_at
 unfolding char_at
 char_at_related this that vs ws b c = this_text_related this that _ _ b (λ t i. place_related vs ws _ c (λ z. made (text_of_unit (unit_at t z)) (unit_text (unit_at t z) (unit_at_bound t z i.units))))
 
@@ -86,7 +85,7 @@ unit_given : {R : Naming} (o : Option ℕ) → IfSome o (λ u. u < 65536) → Re
 unit_given None h = raise_related NumberOutOfRange
 unit_given (Some u) h = BothGive (BothNumber (natural u (omega (arith, h))))
 
-pub char_code_at_related : {R : Naming} → RelatedRow R char_code_at char_code_at
+pub char_code_at_related : {R : Naming} → BuiltInRelated R char_code_at char_code_at
 unfolding char_code_at
 char_code_at_related this that vs ws b c = this_text_related this that _ _ b (λ t i. place_related vs ws _ c (λ z. unit_given (unit_at t z) (unit_at_bound t z i.units)))
 
@@ -98,14 +97,14 @@ number_given : {R : Naming} (o : Option ℕ) → IfSome o (λ n. n ≤ greatest)
 number_given None h = BothUndefined
 number_given (Some n) h = BothNumber (natural n h)
 
-pub code_point_at_related : {R : Naming} → RelatedRow R code_point_at code_point_at
+pub code_point_at_related : {R : Naming} → BuiltInRelated R code_point_at code_point_at
 unfolding code_point_at
 code_point_at_related this that vs ws b c =
     this_text_related this that _ _ b (λ t i. place_related vs ws _ c (λ z. BothGive (number_given (first_code_point (from_unit t z)) (code_point_bound (from_unit t z) (units_from t z i.units)))))
 
 -- ---- searches
 
-pub ends_with_related : {R : Naming} → RelatedRow R ends_with ends_with
+pub ends_with_related : {R : Naming} → BuiltInRelated R ends_with ends_with
 unfolding ends_with
 ends_with_related this that vs ws b c =
     this_text_related this that _ _ b (λ t i.
@@ -122,7 +121,7 @@ searched_related this that vs ws k l b c h =
     within t None i g = tt
     within t (Some n) i g = let f = i.bound in omega (arith, f, g)
 
-pub includes_related : {R : Naming} → RelatedRow R includes includes
+pub includes_related : {R : Naming} → BuiltInRelated R includes includes
 unfolding includes
 includes_related this that vs ws b c = searched_related this that vs ws (λ o. Give (Boolean (is_some o))) (λ o. Give (Boolean (is_some o))) b c (λ o h. BothGive BothBoolean)
 
@@ -130,11 +129,11 @@ index_given : {R : Naming} (o : Option ℕ) → IfSome o (λ n. n ≤ greatest) 
 index_given None h = BothNumber (record { bound = lit≤ tt })
 index_given (Some n) h = BothNumber (natural n h)
 
-pub index_of_related : {R : Naming} → RelatedRow R index_of index_of
+pub index_of_related : {R : Naming} → BuiltInRelated R index_of index_of
 unfolding index_of
 index_of_related this that vs ws b c = searched_related this that vs ws _ _ b c (λ o h. BothGive (index_given o h))
 
-pub starts_with_related : {R : Naming} → RelatedRow R starts_with starts_with
+pub starts_with_related : {R : Naming} → BuiltInRelated R starts_with starts_with
 unfolding starts_with
 starts_with_related this that vs ws b c =
     this_text_related this that _ _ b (λ t i.
@@ -159,18 +158,18 @@ fill_expected_related v w k l (BothNumber i) h = text_expected_related _ _ k l (
 fill_expected_related v w k l (BothString i) h = text_expected_related _ _ k l (BothString i) h
 fill_expected_related v w k l (BothObject r) h = text_expected_related _ _ k l (BothObject r) h
 
-pad_related : {R : Naming} (placement : Placement) → RelatedRow R (pad placement) (pad placement)
+pad_related : {R : Naming} (placement : Placement) → BuiltInRelated R (pad placement) (pad placement)
 pad_related placement this that vs ws b c =
     this_text_related this that _ _ b (λ t i.
     count_expected_related _ _ _ _ (argument_related vs ws 0 c) (λ size j.
     cond_related (nat_le size (length t)) _ _ _ _ (made t i.units)
     (fill_expected_related _ _ _ _ (argument_related vs ws 1 c) (λ fill g. pad_with_related placement t size fill i.units g.units))))
 
-pub pad_end_related : {R : Naming} → RelatedRow R pad_end pad_end
+pub pad_end_related : {R : Naming} → BuiltInRelated R pad_end pad_end
 unfolding pad_end
 pad_end_related this that vs ws b c = pad_related AtEnd this that vs ws b c
 
-pub pad_start_related : {R : Naming} → RelatedRow R pad_start pad_start
+pub pad_start_related : {R : Naming} → BuiltInRelated R pad_start pad_start
 unfolding pad_start
 pad_start_related this that vs ws b c = pad_related AtStart this that vs ws b c
 
@@ -180,20 +179,20 @@ repeated_related (u ∷ us) (pos n) h = cond_related (nat_lt longest_text (n * l
 repeated_related [] (negsuc n) h = raise_related InvalidArgument
 repeated_related (u ∷ us) (negsuc n) h = raise_related InvalidArgument
 
-pub repeat_related : {R : Naming} → RelatedRow R repeat repeat
+pub repeat_related : {R : Naming} → BuiltInRelated R repeat repeat
 unfolding repeat
 repeat_related this that vs ws b c = this_text_related this that _ _ b (λ t i. place_related vs ws _ c (λ z. repeated_related t z i.units))
 
 -- ---- parts
 
-pub slice_related : {R : Naming} → RelatedRow R slice slice
+pub slice_related : {R : Naming} → BuiltInRelated R slice slice
 unfolding slice
 slice_related this that vs ws b c =
     this_text_related this that _ _ b (λ t i.
     relative_position_related 0 _ _ (length t) _ _ (lit≤ tt) (argument_related vs ws 0 c) (λ from f.
     relative_position_related (length t) _ _ (length t) _ _ i.bound (argument_related vs ws 1 c) (λ to g. made (substring t from to) (units_of_part t from to i.units))))
 
-pub substring_related : {R : Naming} → RelatedRow R substring_between substring_between
+pub substring_related : {R : Naming} → BuiltInRelated R substring_between substring_between
 unfolding substring_between
 substring_related this that vs ws b c =
     this_text_related this that _ _ b (λ t i.
@@ -223,18 +222,18 @@ split_by_related text t limit (BothNumber x) h = split_with (pieces_of text t) l
 split_by_related text t limit (BothString x) h = split_with (pieces_of text t) limit (texts_of_pieces text t h)
 split_by_related text t limit (BothObject r) h = split_with (pieces_of text t) limit (texts_of_pieces text t h)
 
-pub split_related : {R : Naming} → RelatedRow R split split
+pub split_related : {R : Naming} → BuiltInRelated R split split
 unfolding split
 split_related this that vs ws b c =
     this_text_related this that _ _ b (λ t i.
     limit_expected_related _ _ _ _ (argument_related vs ws 1 c) (λ limit.
     text_expected_related _ _ _ _ (argument_related vs ws 0 c) (λ text j. split_by_related text t limit (argument_related vs ws 0 c) i.units)))
 
-pub trim_related : {R : Naming} → RelatedRow R trim trim
+pub trim_related : {R : Naming} → BuiltInRelated R trim trim
 unfolding trim
 trim_related this that vs ws b c = this_text_related this that _ _ b (λ t i. made (trim_end (trim_start t)) (units_to_end (trim_start t) (units_from_start t i.units)))
 
-pub to_string_related : {R : Naming} → RelatedRow R to_string to_string
+pub to_string_related : {R : Naming} → BuiltInRelated R to_string to_string
 unfolding to_string
 to_string_related this that vs ws BothUndefined c = raise_related NoProperties
 to_string_related this that vs ws BothNull c = raise_related NoProperties
@@ -245,7 +244,10 @@ to_string_related this that vs ws (BothObject r) c = raise_related PrimitiveExpe
 
 -- ---- the rows
 
-pub string_row_related : {R : Naming} (row f g : ℕ) (s t : Option Value) (this that : Value) (vs ws : List Value) → BothValue R this that → BothList (BothValue R) vs ws → Related R (string_row row f s this vs) (string_row row g t that ws)
+pub string_row_related : {R : Naming} (n f g : ℕ) (s t : Option Value) → BuiltInRelated R (string_row n f s) (string_row n g t)
 unfolding string_row
-string_row_related row f g s t this that vs ws b c = call_row_related string_functions string_functions row
-    (refl, string_related, (refl, from_char_code_related, (refl, char_at_related, (refl, char_code_at_related, (refl, code_point_at_related, (refl, ends_with_related, (refl, includes_related, (refl, index_of_related, (refl, pad_end_related, (refl, pad_start_related, (refl, repeat_related, (refl, slice_related, (refl, split_related, (refl, starts_with_related, (refl, substring_related, (refl, to_string_related, (refl, trim_related, tt))))))))))))))))) this that vs ws b c
+string_row_related n f g s t = call_row_related
+    (BothRow string_related (BothRow from_char_code_related (BothRow char_at_related (BothRow char_code_at_related
+    (BothRow code_point_at_related (BothRow ends_with_related (BothRow includes_related (BothRow index_of_related
+    (BothRow pad_end_related (BothRow pad_start_related (BothRow repeat_related (BothRow slice_related (BothRow split_related
+    (BothRow starts_with_related (BothRow substring_related (BothRow to_string_related (BothRow trim_related BothEnd))))))))))))))))) n

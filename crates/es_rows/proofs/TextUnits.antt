@@ -1,7 +1,7 @@
 -- Parts and joins of texts have units of 16 bits, where the texts have, and what is read from a text is a Number.
-use Rattle.std.proofs.Common.{◌≡◌, ℕ, zero, suc, ◌+◌, ◌-◌, ◌*◌, ◌≤◌, ◌<◌, Bool, true, false, cond, if◌then◌else◌, ◌&&◌, List, [], ◌∷◌, ◌++◌, length, take, drop, ℤ, pos, negsuc, Option, Some, None, IfSome, refl, arith}
-use Rattle.js_value.specs.Value.{Text, same_text}
-use Rattle.js_value.specs.Number.{IsNumber, greatest}
+use Rattle.std.proofs.Common.{ℕ, zero, suc, ◌+◌, ◌-◌, ◌*◌, ◌≤◌, ◌<◌, Bool, true, false, cond, if◌then◌else◌, ◌&&◌, List, [], ◌∷◌, length, take, drop, ℤ, pos, negsuc, Option, Some, None, IfSome, arith}
+use Rattle.js_value.specs.Value.{Text}
+use Rattle.js_value.specs.Number.{greatest}
 use Rattle.js_value.specs.Order.{AreUnits}
 use Rattle.js_value.specs.Word.{residue}
 use Rattle.js_value.specs.Text.{is_leading_surrogate, is_trailing_surrogate, code_point}
