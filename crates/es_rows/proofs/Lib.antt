@@ -13,6 +13,7 @@ pub mod ArrayCallbacksRelated
 pub mod ArrayReadsRelated
 pub mod ArrayWritesRelated
 pub mod ArrayRelated
+pub mod BuiltInsRelated
 mod Samples
 mod RealmRows
 mod ObjectRows
