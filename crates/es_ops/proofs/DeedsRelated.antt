@@ -149,14 +149,19 @@ module _ (ps : Pairs) (w v : Heap) (b : BothHeap ps w v) where
 module _ (ps : Pairs) (w v : World) (b : BothWorld ps w v) where
   -- what two events come to over the heaps, they come to over the worlds
   lifted_both : {A B : Type 0} (Answers : Naming → A → B → Type 0) (e : Event Heap A) (f : Event Heap B) → BothEvent BothHeap ps Answers e f → BothEvent BothWorld ps Answers (with_rest w e) (with_rest v f)
-  lifted_both Answers (Happens a h) (Happens c g) x = (x.0, x.1, record {
-    heap = x.2;
-    rejections = list_more (named ps) (named x.0) x.1 b.rejections;
-    modules = list_more (BothModule (named ps)) (BothModule (named x.0)) (module_more (named ps) (named x.0) x.1) b.modules;
-    functions = b.functions;
-    trace = b.trace;
-    input = b.input;
-  }, x.3)
+  lifted_both Answers (Happens a h) (Happens c g) x = (
+    x.0,
+    x.1,
+    record {
+      heap = x.2;
+      rejections = list_more (named ps) (named x.0) x.1 b.rejections;
+      modules = list_more (BothModule (named ps)) (BothModule (named x.0)) (module_more (named ps) (named x.0) x.1) b.modules;
+      functions = b.functions;
+      trace = b.trace;
+      input = b.input;
+    },
+    x.3,
+  )
   lifted_both Answers (Stops f) (Stops g) x = x
   lifted_both Answers (Happens a h) (Stops g) x = absurd x
   lifted_both Answers (Stops f) (Happens c g) x = absurd x

@@ -1,17 +1,22 @@
 -- No event makes a count fall, takes a name or a thing away, or changes a limit.
-use Rattle.std.proofs.Common.{◌≡◌, ℕ, zero, suc, ◌≤◌, Bool, true, false, cond, List, [], ◌∷◌, ◌++◌, length, arith, refl, sym, ap, ◌∙◌, append_assoc, append-nil, Option, Some, None, slice_get, length-append, length-set, le_refl}
-use Rattle.js_value.specs.Value.{Value, Text}
+use Rattle.std.proofs.Common.{◌≡◌, ℕ, ◌≤◌, Bool, true, false, cond, List, [], ◌∷◌, ◌++◌, length, arith, refl, sym, ap, subst, ◌||◌, ◌∙◌, append_assoc, append-nil, Option, Some, None, slice_get, length-append, length-set, le_refl}
+use Rattle.std.specs.List.{list_any}
+use Rattle.std.proofs.lemmas.List.Folds.{list_any-append}
+use Rattle.js_value.specs.NumberText.{text_of_number}
+use Rattle.js_value.specs.Value.{Value, Text, same_text, Key, Index, Named, Numeral}
+use Rattle.js_value.proofs.Entries.{same_text_sym}
 use Rattle.js_value.specs.Store.{Store, Thing, AnObject, ACell, AMark, ObjectRecord, Class, Promise, PromiseState, Pending, Fulfilled, Rejected, Ordinary, Array, ScriptFunction, BuiltInFunction, ResolveFunction, RejectFunction, Error, Reaction, frozen, size, object_in, cell_in, mark_in}
 use Rattle.js_value.specs.Job.{Job}
 use Rattle.js_value.specs.declared.counts.Room.{Room}
 use Rattle.es_ops.specs.State.{Heap, World, State, plus, nothing, some_slots, some_units}
 use Rattle.js_value.specs.declared.counts.Full.{Full}
-use Rattle.es_ops.specs.Ledger.{Event, Happens, Stops, charged, charged_unless, passed, written, with_thing, first_cost, with_name, name_added, name_cost, growth}
-use Rattle.es_ops.specs.InternalMethods.{Method, apply_method}
-use Rattle.es_ops.specs.Events.{reply, Deed, perform, Make, Apply, Attach, SetCell, SetMark, Settle, TakeReaction, AddReaction, Enqueue, Dequeue, AddRejection, RemoveRejection, MakeText, Write, Take, make, apply, attach, set_cell, set_mark, settle, take_reaction, add_reaction, enqueue, dequeue, apply_outcome, settle_class, take_reaction_class, react_class, dequeue_from, attached}
-use Rattle.es_ops.specs.Act.{Act, Give, Throw, Halt, Turn, Ask, Do, Call, Try, Completion, NormalCompletion, ThrowCompletion, Ran, Ends, Halts, Calls, with_world, spent, happened, returned, ended, run}
-use Rattle.es_ops.specs.Laws.{Grows, IfHappens, state_of}
+use Rattle.es_ops.specs.Ledger.{Event, Happens, Stops, charged, charged_unless, passed, written, with_thing, first_cost, with_name, name_added, name_cost, growth, is_name, new_name, created}
+use Rattle.es_ops.specs.InternalMethods.{Method, DefineOwnProperty, Delete, PreventExtensions, SetPrototypeOf, Freeze, apply_method}
+use Rattle.es_ops.specs.Events.{Deed, perform, Make, Apply, Attach, SetCell, SetMark, Settle, TakeReaction, AddReaction, Enqueue, Dequeue, AddRejection, RemoveRejection, MakeText, Write, Take, make, apply, attach, set_cell, set_mark, settle, take_reaction, add_reaction, enqueue, dequeue, apply_outcome, settle_class, take_reaction_class, react_class, dequeue_from, attached}
+use Rattle.es_ops.specs.Act.{Act, Calls, run}
+use Rattle.es_ops.specs.Laws.{AreDistinct, Grows, IfHappens, state_of}
 use Rattle.es_ops.proofs.OnHeap.{lifted}
+use Rattle.es_ops.proofs.RunsKeep.{run_keeps}
 
 grows_same : (w v : Heap) → length w.store ≤ length v.store → v.ledger.used ≡ w.ledger.used → v.names ≡ w.names → v.ledger.room ≡ w.ledger.room → v.realm ≡ w.realm → Grows w v
 grows_same w v things used names room realm = record {
@@ -20,6 +25,7 @@ grows_same w v things used names room realm = record {
   units = rw used (le_refl w.ledger.used.units);
   names_used = rw used (le_refl w.ledger.used.names);
   names = ([], names ∙ sym (append-nil w.names));
+  distinct = λ d. subst AreDistinct (sym names) d;
   room = room;
   realm = realm;
 }
@@ -34,6 +40,7 @@ grows_trans u v w a b = record {
   units = omega (arith, a.units, b.units);
   names_used = omega (arith, a.names_used, b.names_used);
   names = (a.names.0 ++ b.names.0, b.names.1 ∙ ap (λ l. l ++ b.names.0) a.names.1 ∙ append_assoc u.names a.names.0 b.names.0);
+  distinct = λ d. b.distinct (a.distinct d);
   room = b.room ∙ a.room;
   realm = b.realm ∙ a.realm;
 }
@@ -49,6 +56,7 @@ charged_grows w v price a g = by_stop (passed (plus v.ledger.used price) v.ledge
       units = omega (arith, g.units);
       names_used = omega (arith, g.names_used);
       names = g.names;
+      distinct = g.distinct;
       room = g.room;
       realm = g.realm;
     }
@@ -60,6 +68,7 @@ thing_grows w v n t g = record {
   units = g.units;
   names_used = g.names_used;
   names = g.names;
+  distinct = g.distinct;
   room = g.room;
   realm = g.realm;
 }
@@ -72,14 +81,56 @@ written_grows w v n before after p a g = by_bool (frozen before)
     by_bool true = g
     by_bool false = charged_grows w (with_thing v n after) (plus (first_cost v n) p) a (thing_grows w v n after g)
 
-name_grows : (w : Heap) (name : Option Text) → Grows w (with_name name w)
-name_grows w None = grows_refl w
-name_grows w (Some t) = record {
+-- ---- names that are added
+
+-- a name that is added is none yet
+abbrev IsNew : Heap → Option Text → Type 0
+IsNew h None = Unit {0}
+IsNew h (Some t) = is_name h t ≡ false
+
+new_name_new : (h : Heap) (key : Key) → IsNew h (new_name h key)
+new_name_new h (Index i) = tt
+new_name_new h (Named t) = by_test (is_name h t) refl
+  where
+    by_test : (b : Bool) → is_name h t ≡ b → IsNew h (cond b None (Some t))
+    by_test true e = tt
+    by_test false e = e
+new_name_new h (Numeral n) = by_test (is_name h (text_of_number n)) refl
+  where
+    by_test : (b : Bool) → is_name h (text_of_number n) ≡ b → IsNew h (cond b None (Some (text_of_number n)))
+    by_test true e = tt
+    by_test false e = e
+
+added_new : (h : Heap) (m : Method) (before after : ObjectRecord) → IsNew h (name_added h m before after)
+added_new h (DefineOwnProperty key d) before after = by_test (created before after)
+  where
+    by_test : (b : Bool) → IsNew h (cond b (new_name h key) None)
+    by_test true = new_name_new h key
+    by_test false = tt
+added_new h (Delete key) before after = tt
+added_new h PreventExtensions before after = tt
+added_new h (SetPrototypeOf v) before after = tt
+added_new h Freeze before after = tt
+
+append_distinct : (ts : List Text) (t : Text) → list_any (same_text t) ts ≡ false → AreDistinct ts → AreDistinct (ts ++ t ∷ [])
+append_distinct [] t e d = (refl, tt)
+append_distinct (u ∷ ts) t e d =
+    let apart : (same_text t u ≡ false) × (list_any (same_text t) ts ≡ false) = both_false (same_text t u) (list_any (same_text t) ts) e in
+    (list_any-append (same_text u) ts (t ∷ []) ∙ rw (d.0, same_text_sym u t, apart.0) refl, append_distinct ts t apart.1 d.1)
+  where
+    both_false : (a b : Bool) → (a || b) ≡ false → (a ≡ false) × (b ≡ false)
+    both_false true b e = absurd (cc)
+    both_false false b e = (refl, e)
+
+name_grows : (w : Heap) (name : Option Text) → IsNew w name → Grows w (with_name name w)
+name_grows w None new = grows_refl w
+name_grows w (Some t) new = record {
   things = le_refl (length w.store);
   slots = le_refl w.ledger.used.slots;
   units = le_refl w.ledger.used.units;
   names_used = le_refl w.ledger.used.names;
   names = (t ∷ [], refl);
+  distinct = λ d. append_distinct w.names t new d;
   room = refl;
   realm = refl;
 }
@@ -88,7 +139,7 @@ apply_grows : (w : Heap) (n : ℕ) (m : Method) (before : ObjectRecord) (answer 
 apply_grows w n m before answer None = grows_refl w
 apply_grows w n m before answer (Some after) =
     let name : Option Text = name_added w m before after in
-    written_grows w (with_name name w) n (AnObject before) (AnObject after) (plus (growth before after) (name_cost m name)) answer (name_grows w name)
+    written_grows w (with_name name w) n (AnObject before) (AnObject after) (plus (growth before after) (name_cost m name)) answer (name_grows w name (added_new w m before after))
 
 settle_grows : (w : Heap) (n : ℕ) (state : PromiseState) (o : ObjectRecord) (c : Class) → IfHappens (settle_class w n state o c) (λ a v. Grows w v)
 settle_grows w n state o (Promise Pending reactions) = written_grows w w n (AnObject o) (AnObject (record o { class = Promise state reactions })) nothing (Some (length reactions)) (grows_refl w)
@@ -166,38 +217,15 @@ perform_grows (Take line left) w = grows_refl w.heap
 abbrev pub CallsGrow : Calls → Type 0
 CallsGrow c = (f this : Value) (arguments : List Value) (target : Option Value) (s : State) → Grows s.world.heap (state_of (c f this arguments target s)).world.heap
 
-happened_grows : {A : Type 0} (w : Heap) (e : Event World A) (s : State) (f : A → State → Ran) → IfHappens e (λ a v. Grows w v.heap) → Grows w s.world.heap → ((a : A) (t : State) → Grows w t.world.heap → Grows w (state_of (f a t)).world.heap) → Grows w (state_of (happened e s f)).world.heap
-happened_grows w (Happens a v) s f g h next = next a (with_world s v) g
-happened_grows w (Stops full) s f g h next = h
-
-spent_grows : (w : Heap) (n : ℕ) (s : State) (f : State → Ran) → Grows w s.world.heap → ((t : State) → Grows w t.world.heap → Grows w (state_of (f t)).world.heap) → Grows w (state_of (spent n s f)).world.heap
-spent_grows w zero s f g next = g
-spent_grows w (suc n) s f g next = next (record s { meter = n }) g
-
-returned_grows : (w : Heap) (x : Ran) (f : Value → State → Ran) → Grows w (state_of x).world.heap → ((v : Value) (t : State) → Grows w t.world.heap → Grows w (state_of (f v t)).world.heap) → Grows w (state_of (returned x f)).world.heap
-returned_grows w (Ends (NormalCompletion v) s) f g next = next v s g
-returned_grows w (Ends (ThrowCompletion v) s) f g next = g
-returned_grows w (Halts stop s) f g next = g
-
-ended_grows : (w : Heap) (x : Ran) (f : Completion → State → Ran) → Grows w (state_of x).world.heap → ((c : Completion) (t : State) → Grows w t.world.heap → Grows w (state_of (f c t)).world.heap) → Grows w (state_of (ended x f)).world.heap
-ended_grows w (Ends c s) f g next = next c s g
-ended_grows w (Halts stop s) f g next = g
-
--- from any world that the state has grown from
-run_grows_from : (c : Calls) → CallsGrow c → (w : Heap) (p : Act) (s : State) → Grows w s.world.heap → Grows w (state_of (run c p s)).world.heap
-unfolding run
-run_grows_from c grow w (Give v) s g = g
-run_grows_from c grow w (Throw v) s g = g
-run_grows_from c grow w (Halt stop) s g = g
-run_grows_from c grow w (Turn p) s g = spent_grows w s.meter s (run c p) g (run_grows_from c grow w p)
-run_grows_from c grow w (Ask q k) s g = run_grows_from c grow w (k (reply q s.world)) s g
-run_grows_from c grow w (Do d k) s g = happened_grows w (perform d s.world) s (λ a. run c (k a)) (from (perform d s.world) (perform_grows d s.world)) g (λ a. run_grows_from c grow w (k a))
+-- a deed on a world that has grown from a heap
+deed_grows : (h : Heap) (d : Deed) (w : World) → Grows h w.heap → IfHappens (perform d w) (λ a v. Grows h v.heap)
+deed_grows h d w g = by_event (perform d w) (perform_grows d w)
   where
-    from : {A : Type 0} (e : Event World A) → IfHappens e (λ a v. Grows s.world.heap v.heap) → IfHappens e (λ a v. Grows w v.heap)
-    from (Happens a v) h = grows_trans w s.world.heap v.heap g h
-    from (Stops full) h = tt
-run_grows_from c grow w (Call f this vs n k) s g = returned_grows w (c f this vs n s) (λ v. run c (k v)) (grows_trans w s.world.heap _ g (grow f this vs n s)) (λ v. run_grows_from c grow w (k v))
-run_grows_from c grow w (Try f this vs n k) s g = ended_grows w (c f this vs n s) (λ v. run c (k v)) (grows_trans w s.world.heap _ g (grow f this vs n s)) (λ v. run_grows_from c grow w (k v))
+    by_event : {A : Type 0} (e : Event World A) → IfHappens e (λ a v. Grows w.heap v.heap) → IfHappens e (λ a v. Grows h v.heap)
+    by_event (Happens a v) k = grows_trans h w.heap v.heap g k
+    by_event (Stops full) k = tt
 
 pub run_grows : (c : Calls) → CallsGrow c → (p : Act) (s : State) → Grows s.world.heap (state_of (run c p s)).world.heap
-run_grows c grow p s = run_grows_from c grow s.world.heap p s (grows_refl s.world.heap)
+run_grows c grow p s =
+    run_keeps (λ w. Grows s.world.heap w.heap) (deed_grows s.world.heap) c
+    (λ f this vs n t g. grows_trans s.world.heap t.world.heap _ g (grow f this vs n t)) p s (grows_refl s.world.heap)

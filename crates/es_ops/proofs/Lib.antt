@@ -15,7 +15,10 @@ pub mod Others
 pub mod Orderly
 mod ProgramRows
 mod PromiseRows
+pub mod PropertiesKeep
 pub mod Prototypes
+pub mod RunsKeep
+pub mod KindsLast
 mod Samples
 mod StoreRows
 pub mod TwoLedgers

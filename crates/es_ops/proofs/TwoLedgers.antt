@@ -174,11 +174,11 @@ happened_alike (Happens a w) (Stops full) s t f g same r next = full_right (f a 
 happened_alike (Happens a w) (Happens b v) s t f g same r next =
     rw (sym same.0) (next a (with_world s w) (with_world t v) (record { worlds = same.1; meter = r.meter; depth = r.depth }))
 
-spent_alike : (n m : ℕ) (s t : State) (f g : State → Ran) → m ≡ n → IsAlikeState s t → ((s t : State) → IsAlikeState s t → EndAlikeUnlessFull (f s) (g t)) → EndAlikeUnlessFull (spent n s f) (spent m t g)
+pub spent_alike : (n m : ℕ) (s t : State) (f g : State → Ran) → m ≡ n → IsAlikeState s t → ((s t : State) → IsAlikeState s t → EndAlikeUnlessFull (f s) (g t)) → EndAlikeUnlessFull (spent n s f) (spent m t g)
 spent_alike zero m s t f g e r next = rw e (refl, r)
 spent_alike (suc n) m s t f g e r next = rw e (next (record s { meter = n }) (record t { meter = n }) (record { worlds = r.worlds; meter = refl; depth = r.depth }))
 
-returned_alike : (x y : Ran) (f g : Value → State → Ran) → EndAlikeUnlessFull x y → ((v : Value) (s t : State) → IsAlikeState s t → EndAlikeUnlessFull (f v s) (g v t)) → EndAlikeUnlessFull (returned x f) (returned y g)
+pub returned_alike : (x y : Ran) (f g : Value → State → Ran) → EndAlikeUnlessFull x y → ((v : Value) (s t : State) → IsAlikeState s t → EndAlikeUnlessFull (f v s) (g v t)) → EndAlikeUnlessFull (returned x f) (returned y g)
 returned_alike (Halts (OutOf h) s) y f g e next = tt
 returned_alike (Ends (NormalCompletion v) s) (Ends d t) f g e next = rw (sym e.0) (next v s t e.1)
 returned_alike (Ends (ThrowCompletion v) s) (Ends d t) f g e next = rw (sym e.0) (refl, e.1)

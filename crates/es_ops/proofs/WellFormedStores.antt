@@ -363,11 +363,14 @@ make_well h t w b o =
 lifted_well : {A : Type 0} (B : ℕ → A → Type 0) (w : World) (e : Event Heap A) → IsWorldWellFormed w → IfHappens (with_rest w e) (λ a v. Grows w.heap v.heap) → IfHappens e (λ a h. IsHeapWellFormed h × B (length h.store) a)
     → IfHappens (with_rest w e) (λ a v. IsWorldWellFormed v × B (length v.heap.store) a)
 lifted_well B w (Stops full) well grows h = tt
-lifted_well B w (Happens a g) well grows h = (record {
-  heap = h.0;
-  rejections = numbers_more (length w.heap.store) (length g.store) grows.things w.rejections well.rejections;
-  modules = modules_more (length w.heap.store) (length g.store) grows.things w.modules well.modules;
-}, h.1)
+lifted_well B w (Happens a g) well grows h = (
+  record {
+    heap = h.0;
+    rejections = numbers_more (length w.heap.store) (length g.store) grows.things w.rejections well.rejections;
+    modules = modules_more (length w.heap.store) (length g.store) grows.things w.modules well.modules;
+  },
+  h.1,
+)
 
 rejections_well : (w : World) (ns : List ℕ) → IsWorldWellFormed w → AreNumbersBelow (length w.heap.store) ns → IsWorldWellFormed (record w { rejections = ns })
 rejections_well w ns h b = record { heap = h.heap; rejections = b; modules = h.modules }

@@ -5,13 +5,15 @@ use Rattle.js_value.specs.Value.{Text}
 use Rattle.js_value.specs.Store.{Thing, AnObject, ACell, AMark, ObjectRecord, Class, Promise, PromiseState, Pending, Fulfilled, Rejected, Ordinary, Array, ScriptFunction, BuiltInFunction, ResolveFunction, RejectFunction, Error, Reaction, frozen, size, object_in, cell_in, mark_in}
 use Rattle.js_value.specs.Job.{Job}
 use Rattle.js_value.specs.declared.counts.Room.{Room}
-use Rattle.es_ops.specs.State.{Heap, World, plus, nothing, some_slots, some_units}
+use Rattle.es_ops.specs.State.{Heap, World, State, plus, nothing, some_slots, some_units}
 use Rattle.js_value.specs.declared.counts.Full.TheVariants.{Slots, Units, Names}
 use Rattle.es_ops.specs.Ledger.{Event, Happens, charged, charged_unless, written, with_thing, first_cost, with_name, name_added, name_cost, growth}
 use Rattle.es_ops.specs.InternalMethods.{Method, apply_method}
 use Rattle.es_ops.specs.Events.{Deed, perform, Make, Apply, Attach, SetCell, SetMark, Settle, TakeReaction, AddReaction, Enqueue, Dequeue, AddRejection, RemoveRejection, MakeText, Write, Take, make, apply, set_cell, set_mark, settle, take_reaction, add_reaction, enqueue, dequeue, apply_outcome, settle_class, take_reaction_class, react_class, dequeue_from}
-use Rattle.es_ops.specs.Laws.{IfHappens, IsWithinRoom}
+use Rattle.es_ops.specs.Laws.{IfHappens, IsWithinRoom, state_of}
+use Rattle.es_ops.specs.Act.{Act, Calls, run}
 use Rattle.es_ops.proofs.OnHeap.{lifted}
+use Rattle.es_ops.proofs.RunsKeep.{CallsKeep, run_keeps}
 
 Within : {A : Type 0} → Event Heap A → Type 0
 Within e = IfHappens e (λ a v. IsWithinRoom v.ledger)
@@ -114,3 +116,6 @@ perform_within (RemoveRejection n) w h = h
 perform_within (MakeText units) w h = lifted (λ a v. IsWithinRoom v.heap.ledger) w (charged (some_units units) tt w.heap) (charged_within (some_units units) tt w.heap)
 perform_within (Write bytes) w h = h
 perform_within (Take line left) w h = h
+
+pub run_within : (c : Calls) → CallsKeep (λ w. IsWithinRoom w.heap.ledger) c → (p : Act) (s : State) → IsWithinRoom s.world.heap.ledger → IsWithinRoom (state_of (run c p s)).world.heap.ledger
+run_within c keep p s h = run_keeps (λ w. IsWithinRoom w.heap.ledger) perform_within c keep p s h

@@ -1,6 +1,7 @@
 -- What the laws of acts are stated in.
 use Rattle.std.specs.Prelude.{◌≡◌, ℕ, suc, ◌≤◌, ◌<◌, Bool, false, ◌==◌, List, [], ◌∷◌, ◌++◌, length, IfSome, Option, Some, None}
-use Rattle.js_value.specs.Value.{Value, Text}
+use Rattle.std.specs.List.{list_any}
+use Rattle.js_value.specs.Value.{Value, Text, same_text}
 use Rattle.js_value.specs.Store.{Reaction}
 use Rattle.js_value.specs.Order.{IsKey}
 use Rattle.js_value.specs.WellFormed.{IsValueBelow, IfValueBelow, IfNumberBelow, AreNumbersBelow, AreValuesBelow, IsContentBelow, IsStateBelow, IsReactionBelow, IsClassBelow, IsThingBelow, IsThingOrderly, IsWellFormed}
@@ -30,12 +31,17 @@ CallAlike R c d = (f this : Value) (arguments : List Value) (target : Option Val
 
 -- ---- what no event makes less
 
+abbrev pub AreDistinct : List Text → Type 0
+AreDistinct [] = Unit {0}
+AreDistinct (t ∷ ts) = (list_any (same_text t) ts ≡ false) × AreDistinct ts
+
 pub record Grows (g h : Heap) : Type 0 where
   pub things : length g.store ≤ length h.store
   pub slots : g.ledger.used.slots ≤ h.ledger.used.slots
   pub units : g.ledger.used.units ≤ h.ledger.used.units
   pub names_used : g.ledger.used.names ≤ h.ledger.used.names
   pub names : (more : List Text) × (h.names ≡ g.names ++ more)
+  pub distinct : AreDistinct g.names → AreDistinct h.names
   pub room : h.ledger.room ≡ g.ledger.room
   pub realm : h.realm ≡ g.realm
 

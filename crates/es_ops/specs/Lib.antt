@@ -19,6 +19,7 @@ pub mod References
 pub mod Making
 pub mod HostCalls
 pub mod Operate
+pub mod Kinds
 pub mod Laws
 pub mod Operations
 pub mod Related
