@@ -362,3 +362,42 @@ fixed_array = refl
 fixed_array_spliced : thing_after (ran 90 (Object 21) (number 0 ∷ number 1 ∷ [])) 26 ≡ type_error NotDeletable
 unfolding arrays_computing
 fixed_array_spliced = refl
+
+-- ---- what is made, and lengths at the end of the range
+
+prototype_in : Option Thing → Option ℕ
+prototype_in (Some (AnObject o)) = o.prototype
+prototype_in thing = None
+
+filtered_array : thing_after (ran 75 (Object 13) (Object 14 ∷ [])) made
+    ≡ Some (AnObject (record { class = Array 2 true; prototype = Some 12; extensible = true; indexed = (0, plain (number 1)) ∷ (1, plain (text (codes "b"))) ∷ []; named = [] }))
+unfolding arrays_computing
+filtered_array = refl
+
+prototypes_of_results : map (λ n. prototype_in (thing_after (ran n (Object 13) (Object 14 ∷ [])) made)) (70 ∷ 72 ∷ 75 ∷ 82 ∷ []) ∷ map (λ n. prototype_in (thing_after (ran n (Object 13) []) made)) (88 ∷ 90 ∷ []) ∷ []
+    ≡ replicate 4 (Some 12) ∷ replicate 2 (Some 12) ∷ []
+unfolding arrays_computing prototype_in
+prototypes_of_results = refl
+
+-- of a call with these things, what is made first where there are two of them
+made_by : List Thing → (n : ℕ) → (target : Option Value) → List Value → Option Thing
+made_by few n target arguments = thing_after (run calls (row n 14 target (Object 13) arguments) (state_of few)) 15
+
+-- a new target whose `prototype` is an object
+newly_targeted : prototype_in (made_by (an_object [] ∷ AnObject (record (ordinary None []) { class = BuiltInFunction 0; named = (codes "prototype", plain (Object 13)) ∷ [] }) ∷ []) 70 (Some (Object 14)) []) ≡ Some 13
+unfolding arrays_computing prototype_in made_by
+newly_targeted = refl
+
+-- a length that would pass 2 ^ 53 - 1, and a result that would be longer than an array
+longest_object : List Thing
+longest_object = an_object (length_of (number 9007199254740991)) ∷ function 0 ∷ []
+
+lengths_refused : map (λ n. made_by longest_object n None (number 1 ∷ [])) (84 ∷ 92 ∷ []) ∷ (made_by longest_object 90 None (number 0 ∷ number 0 ∷ number 1 ∷ []) ∷ []) ∷ (made_by longest_object 82 None (Object 14 ∷ []) ∷ made_by longest_object 88 None [] ∷ []) ∷ []
+    ≡ replicate 2 (range_error NumberOutOfRange) ∷ (range_error NumberOutOfRange ∷ []) ∷ replicate 2 (range_error InvalidArrayLength) ∷ []
+unfolding arrays_computing longest_object made_by
+lengths_refused = refl
+
+-- the receiver's own `join` is called
+joined_by_its_own : came (run calls (row 91 14 None (Object 13) []) (state_of (an_object ((codes "join", plain (Object 14)) ∷ []) ∷ function 10 ∷ []))) ≡ Gave (Object 13)
+unfolding arrays_computing
+joined_by_its_own = refl

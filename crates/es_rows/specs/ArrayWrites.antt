@@ -85,7 +85,7 @@ pub record Splicing : Type 0 where
 abbrev pub spliced_length : Splicing → ℕ
 spliced_length s = s.size - s.deleted + s.added
 
--- steps 16 to 19: the items, the length, the result
+-- steps 18 to 21: the items, the length, the result
 abbrev pub place_items : Splicing → (result : ℕ) → Act
 place_items s a = set_items s.object s.start s.items (λ _. set_length s.object (spliced_length s) (λ _. Give (Object a))) tt
 
@@ -116,7 +116,7 @@ splice_by s =
     length_in_range (spliced_length s) (λ _. result_array s.deleted (λ a.
     copy_range a s.object s.deleted s.start (λ _. set_length a s.deleted (λ _. move_rest s a))))
 
--- steps 7 to 10: how many are deleted
+-- steps 8 to 10: how many are deleted
 abbrev pub delete_count : List Value → (behind : ℕ) → (ℕ → Act) → Act
 delete_count [] behind k = k 0
 delete_count (start ∷ []) behind k = k behind

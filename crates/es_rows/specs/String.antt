@@ -47,7 +47,7 @@ abbrev pub unit_at : Text → ℤ → Option ℕ
 unit_at t (pos n) = slice_get t n
 unit_at t (negsuc n) = None
 
--- 55, charAt (22.1.3.1): the empty text where there is no unit
+-- 55, charAt (22.1.3.2): the empty text where there is no unit
 abbrev pub text_of_unit : Option ℕ → Text
 text_of_unit None = []
 text_of_unit (Some u) = u ∷ []
