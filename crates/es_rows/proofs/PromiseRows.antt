@@ -56,6 +56,11 @@ promise_rejected : thing_after (called_by 13 (Some (Object 13)) things 44 Undefi
 unfolding promises
 promise_rejected = refl
 
+-- and its mark is set, so that its resolving functions have no effect any more
+promise_rejected_mark : thing_after (called_by 13 (Some (Object 13)) things 44 Undefined (Object 14 ∷ [])) 22 ≡ Some (AMark true)
+unfolding promises
+promise_rejected_mark = refl
+
 promise_without_new : refusal (called things 44 Undefined (Object 13 ∷ [])) ≡ Some (text_of_message CalledWithoutNew)
 unfolding promises
 promise_without_new = refl
