@@ -1,8 +1,7 @@
 -- What built-in functions take of their arguments is the same but for the numbers of things.
-use Rattle.std.proofs.Common.{◌≡◌, ℕ, zero, suc, Bool, true, false, cond, nat_eq, List, [], ◌∷◌, drop, ℤ, Option, Some, None}
+use Rattle.std.proofs.Common.{ℕ, zero, suc, Bool, true, false, cond, nat_eq, List, [], ◌∷◌, drop, ℤ, Option, Some}
 use Rattle.js_value.specs.Number.{IsNumber}
 use Rattle.js_value.specs.Value.{Value}
-use Rattle.js_value.specs.Store.{found}
 use Rattle.es_ops.specs.Messages.{NotAnObject, NotAFunction}
 use Rattle.es_ops.specs.Act.{Act}
 use Rattle.es_ops.specs.Related.{Naming, BothList, BothEmpty, BothCons, BothValue, BothUndefined, BothNull, BothBoolean, BothNumber, BothString, BothObject, Related, BothGive, Then, ThenSame}

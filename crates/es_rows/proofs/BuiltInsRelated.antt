@@ -7,7 +7,7 @@ use Rattle.es_ops.specs.Act.{Calls, run}
 use Rattle.es_ops.specs.Laws.{IsWorldWellFormed, IsRanWellFormed, CallsWell}
 use Rattle.es_ops.specs.Related.{Naming, BothOption, BothList, BothEmpty, BothCons, BothValue, IsOneToOne}
 use Rattle.es_ops.specs.Standing.{Below}
-use Rattle.es_ops.specs.Renaming.{Pairs, named, Extends, BothSides, BothRan, BothCalling}
+use Rattle.es_ops.specs.Renaming.{Pairs, named, BothSides, BothRan, BothCalling}
 use Rattle.es_ops.proofs.Parts.{cond_related}
 use Rattle.es_ops.proofs.Diagonal.{value_both, if_value_both}
 use Rattle.es_ops.proofs.MoreNames.{value_more, list_more, option_more}

@@ -1,16 +1,16 @@
 -- Each function of Function, of the kinds of errors, and of the module `host`, once on a plain call and once on its refusal.
-use Rattle.std.proofs.Common.{◌≡◌, ℕ, true, false, List, [], ◌∷◌, ◌++◌, refl, Option, Some, None, pos, negsuc, codes}
+use Rattle.std.proofs.Common.{◌≡◌, true, List, [], ◌∷◌, ◌++◌, refl, Some, None, pos, codes}
 use Rattle.js_value.specs.Value.{Value, Undefined, Null, Boolean, Number, String, Object}
-use Rattle.js_value.specs.Store.{Thing, AnObject, Error, Property, Data}
+use Rattle.js_value.specs.Store.{Thing, AnObject}
 use Rattle.js_value.specs.Text.{piece, encoded, character_length, utf8, units, sequence_length}
 use Rattle.es_ops.specs.State.{Wrote, Took}
 use Rattle.es_ops.specs.Host.{cut}
 use Rattle.es_ops.specs.Messages.{NumberOutOfRange, InvalidArgument, NotAFunction, NotAConstructor, NotAnObject, PrimitiveExpected, text_of_message}
-use Rattle.es_ops.specs.Errors.{error_record, hidden}
+use Rattle.es_ops.specs.Errors.{error_record}
 use Rattle.es_rows.specs.Function.{function_constructor, function_prototype, call, apply}
 use Rattle.es_rows.specs.Error.{bare_error, error, to_string}
 use Rattle.es_rows.specs.ArrayLikes.{length_of_array_like}
-use Rattle.es_rows.proofs.Samples.{plain, ordinary, an_object, array_of, function, called, called_by, came, Gave, Threw, refusal, state_after, thing_after, used_after, meter_after, computing}
+use Rattle.es_rows.proofs.Samples.{plain, an_object, array_of, function, called, called_by, came, Gave, refusal, state_after, thing_after, used_after, meter_after, computing}
 
 unfoldable functions : Unit {0}
 unfolding computing cut piece encoded character_length utf8 units sequence_length function_constructor function_prototype call apply error to_string length_of_array_like

@@ -1,8 +1,7 @@
 -- The functions of Function, of the kinds of errors, of Boolean, and of the module `host` are the same but for the numbers of
 -- things.
-use Rattle.std.proofs.Common.{◌≡◌, ℕ, zero, suc, Bool, true, false, cond, List, [], ◌∷◌, ◌++◌, nat_lt, refl, Option, Some, None, codes}
-use Rattle.js_value.specs.NumberText.{text_of_number}
-use Rattle.js_value.specs.Value.{Value, Undefined, Null, Boolean, Number, String, Object, Text, Named}
+use Rattle.std.proofs.Common.{ℕ, zero, suc, Bool, true, false, List, [], ◌∷◌, ◌++◌, nat_lt, refl, Option, codes}
+use Rattle.js_value.specs.Value.{Value, Boolean, Text, Named}
 use Rattle.js_value.specs.Literal.{digits_number}
 use Rattle.js_value.specs.Order.{AreUnits, IsString, IsOrderly}
 use Rattle.js_value.proofs.Profile.{string_tested, text_of_number_is_string}
@@ -11,7 +10,7 @@ use Rattle.es_ops.specs.Messages.{InvalidArgument, NotAConstructor, WrongReceive
 use Rattle.es_ops.specs.Act.{Act, Give}
 use Rattle.es_ops.specs.Errors.{message_name}
 use Rattle.es_ops.specs.PropertyWrites.{define_property_or_throw}
-use Rattle.es_ops.specs.Conversions.{to_boolean, number_expected, text_of_primitive}
+use Rattle.es_ops.specs.Conversions.{number_expected, text_of_primitive}
 use Rattle.es_ops.specs.Related.{Naming, BothOption, BothNone, BothSome, BothList, BothEmpty, BothCons, BothValue, BothUndefined, BothNull, BothBoolean, BothNumber, BothString, BothObject, BothError, BothAnObject, BothDescriptor, Related, BothGive, BothTurn, BothCall, Then, ThenSame}
 use Rattle.es_ops.proofs.Acting.{do_make}
 use Rattle.es_ops.proofs.Parts.{cond_related}

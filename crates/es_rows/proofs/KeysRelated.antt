@@ -1,6 +1,6 @@
 -- Own keys one after another, and descriptors, are the same but for the numbers of things.
-use Rattle.std.proofs.Common.{◌≡◌, ℕ, zero, suc, Bool, true, false, cond, not, ◌&&◌, ◌||◌, List, [], ◌∷◌, refl, pos, ap, ap₂, Option, Some, None, IfSome, is_some, codes}
-use Rattle.js_value.specs.Value.{Value, Undefined, Text, Key, Index, Named, Numeral}
+use Rattle.std.proofs.Common.{◌≡◌, ℕ, zero, suc, Bool, ◌&&◌, ◌||◌, refl, pos, ap, ap₂, Option, Some, None, IfSome, is_some, codes}
+use Rattle.js_value.specs.Value.{Value, Text, Key, Index, Named, Numeral}
 use Rattle.js_value.specs.Literal.{digits_number}
 use Rattle.js_value.specs.Store.{Property, Content}
 use Rattle.js_value.specs.Order.{IsName, IsKey}
@@ -15,7 +15,7 @@ use Rattle.es_ops.proofs.Parts.{cond_related}
 use Rattle.es_ops.proofs.ReadsRelated.{raise_related, make_text_related, is_callable_related, get_related, has_property_related}
 use Rattle.es_ops.proofs.WritesRelated.{create_or_throw_related}
 use Rattle.es_ops.proofs.MakingRelated.{make_object_related}
-use Rattle.es_rows.specs.Keys.{KeyBody, at_key, each_key_from, each_key, after_turn, each_key_turn, if_enumerable, enumerable_only, string_of_key}
+use Rattle.es_rows.specs.Keys.{KeyBody, at_key, each_key_from, each_key, each_key_turn, if_enumerable, enumerable_only, string_of_key}
 use Rattle.es_rows.specs.Descriptors.{field, flag, flag_field, accessor_or_raise, accessor_field, of_one_kind, descriptor_from, to_property_descriptor, with_field, with_content, with_flags, from_property}
 use Rattle.es_rows.proofs.ArgumentsRelated.{object_expected_related}
 

@@ -1,5 +1,5 @@
 -- Each function of Boolean, Number and Math, once on a plain call and once on its refusal.
-use Rattle.std.proofs.Common.{◌≡◌, ℕ, true, false, List, [], ◌∷◌, refl, Option, Some, None, pos, negsuc, codes}
+use Rattle.std.proofs.Common.{◌≡◌, ℕ, true, false, List, [], ◌∷◌, refl, Option, Some, pos, negsuc, codes}
 use Rattle.std.specs.Int.Count.{count_leading_zeros}
 use Rattle.js_value.specs.Value.{Value, Undefined, Null, Boolean, Number, String, Object, Text}
 use Rattle.js_value.specs.Store.{Thing}

@@ -1,6 +1,5 @@
 -- The functions of Number and of Math are the same but for the numbers of things: what they give are Numbers and Strings.
-use Rattle.std.proofs.Common.{◌≡◌, ℕ, zero, suc, ◌+◌, ◌-◌, ◌*◌, ◌/◌, ◌%◌, ◌^◌, ◌<◌, ◌≤◌, Bool, true, false, cond, not, ◌&&◌, ◌||◌, ◌==◌, if◌then◌else◌, nat_lt, nat_le, List, [], ◌∷◌, map, ℤ, pos, negsuc, neg_ℤ, ◌-ℤ◌, unsigned_abs, int_lt, Option, Some, None, IfSome, refl, sym, subst, arith, lit≤, ◌⊎◌, ⊎_elim}
-use Rattle.std.specs.Int.{w32}
+use Rattle.std.proofs.Common.{◌≡◌, ℕ, zero, suc, ◌+◌, ◌-◌, ◌*◌, ◌%◌, ◌^◌, ◌<◌, ◌≤◌, Bool, true, false, cond, ◌&&◌, ◌||◌, ◌==◌, if◌then◌else◌, nat_lt, nat_le, List, [], ◌∷◌, map, ℤ, pos, negsuc, neg_ℤ, ◌-ℤ◌, int_lt, Option, Some, None, IfSome, refl, subst, arith, lit≤}
 use Rattle.std.specs.Int.Count.{count_leading_zeros}
 use Rattle.std.specs.Int.Digits.{digits_of, AllBelowBase}
 use Rattle.std.specs.Char.{digit_char}
@@ -9,17 +8,17 @@ use Rattle.std.proofs.lemmas.Nat.{leading_le}
 use Rattle.std.proofs.lemmas.Int.Digits.{all_below_base_digits_of}
 use Rattle.std.proofs.lemmas.Bool.Decides.{nat_tests}
 use Rattle.js_value.specs.Number.{IsNumber, greatest}
-use Rattle.js_value.specs.Word.{to_uint32, to_int32, signed_word, word_product, leading_zero_bits}
-use Rattle.js_value.specs.Literal.{digits_number, positive, negative, trim_start}
+use Rattle.js_value.specs.Word.{to_uint32, to_int32, signed_word}
+use Rattle.js_value.specs.Literal.{digits_number, negative, trim_start}
 use Rattle.js_value.specs.Numeral.{digit_text, number_text}
-use Rattle.js_value.specs.Value.{Value, Number}
+use Rattle.js_value.specs.Value.{Value}
 use Rattle.js_value.specs.Order.{AreUnits}
 use Rattle.js_value.proofs.Ascii.{and_left, and_right}
 use Rattle.js_value.proofs.Reading.{number_told}
 use Rattle.es_ops.specs.Messages.{NumberOutOfRange, InvalidArgument, WrongReceiver}
-use Rattle.es_ops.specs.Act.{Act, Give}
+use Rattle.es_ops.specs.Act.{Give}
 use Rattle.es_ops.specs.Errors.{raise, make_text}
-use Rattle.es_ops.specs.Related.{Naming, BothList, BothEmpty, BothCons, BothValue, BothUndefined, BothNull, BothBoolean, BothNumber, BothString, BothObject, Related, BothGive, Then}
+use Rattle.es_ops.specs.Related.{Naming, BothList, BothEmpty, BothCons, BothValue, BothUndefined, BothNull, BothBoolean, BothNumber, BothString, BothObject, Related, BothGive}
 use Rattle.es_ops.proofs.ReadsRelated.{raise_related, made_text_related, number_expected_related, text_expected_related, number_or_raise_related}
 use Rattle.es_rows.specs.Number.{number, is_number, is_integer, is_safe_number, is_safe_integer, SignedText, signed_text, has_prefix, leading_digits, with_sign, parsed, without_prefix, parsed_by_radix, parse_int, text_in_radix, to_string, number_row}
 use Rattle.es_rows.specs.Math.{abs, clz32, imul, greater, lesser, chosen_from, chosen, max, min, sign_of, sign, math_row}

@@ -1,8 +1,7 @@
 -- Each function of Object and of Object.prototype, once on a plain call and once on its refusal.
-use Rattle.std.proofs.Common.{◌≡◌, ℕ, true, false, List, [], ◌∷◌, ◌++◌, refl, Option, Some, None, pos, codes}
+use Rattle.std.proofs.Common.{◌≡◌, ℕ, true, false, List, [], ◌∷◌, refl, Option, Some, None, pos, codes}
 use Rattle.js_value.specs.Value.{Value, Undefined, Null, Boolean, Number, String, Object}
-use Rattle.js_value.specs.Store.{Thing, AnObject, ObjectRecord, Ordinary, Array, Error, Property, Data, Accessor}
-use Rattle.es_ops.specs.State.{some_slots}
+use Rattle.js_value.specs.Store.{Thing, AnObject, Ordinary, Array, Error, Property, Data, Accessor}
 use Rattle.es_ops.specs.Messages.{InvalidArgument, NotAFunction, NotDefinable, NoProperties, NotAnObject, NotWritable, PrimitiveExpected, AccessorOnIndex, PrototypeNotSettable, text_of_message}
 use Rattle.es_ops.specs.Calling.{ordinary_object}
 use Rattle.es_rows.specs.Object.{object, create, get_prototype_of, set_prototype_of, define_property, get_own_property_descriptor, get_own_property_names, keys, values, entries, assign, freeze, is_frozen, prevent_extensions, is_extensible, same, has_own, receiver_has_own, to_string, value_of}

@@ -1,6 +1,6 @@
 -- The functions of Object and of Object.prototype are the same but for the numbers of things.
-use Rattle.std.proofs.Common.{◌≡◌, ℕ, Bool, true, false, cond, not, ◌&&◌, List, [], ◌∷◌, drop, refl, sym, ap, Option, Some, None, is_some, codes}
-use Rattle.js_value.specs.Value.{Value, Undefined, Null, Boolean, Number, String, Object, Text, Key}
+use Rattle.std.proofs.Common.{◌≡◌, ℕ, Bool, true, false, List, refl, Option, is_some}
+use Rattle.js_value.specs.Value.{Value, Object, Text, Key}
 use Rattle.js_value.specs.Store.{Class, Ordinary, Array, ScriptFunction, BuiltInFunction, ResolveFunction, RejectFunction, Error, Promise, Property, Content, is_fixed_content, is_fixed}
 use Rattle.js_value.specs.Order.{IsString, IsKey}
 use Rattle.js_value.proofs.Profile.{string_tested}
@@ -16,9 +16,7 @@ use Rattle.es_ops.proofs.ReadsRelated.{raise_related, get_related, number_expect
 use Rattle.es_ops.proofs.WritesRelated.{accepted_related, define_or_throw_related, set_or_throw_related, same_value_related}
 use Rattle.es_ops.proofs.CallingRelated.{create_from_related, do_make_ordinary}
 use Rattle.es_ops.proofs.MakingRelated.{make_object_related, make_array_related, append_related}
-use Rattle.es_rows.specs.Arguments.{first, second}
-use Rattle.es_rows.specs.Table.{BuiltIn}
-use Rattle.es_rows.specs.Object.{object_of, object_for, object, prototype_expected, undefined_expected, create, get_prototype_of, set_prototype, coercible_expected, set_prototype_of, define_property, get_own_property_descriptor, has_own_property, has_own, receiver_has_own, append_key, get_own_property_names, keys, append_value, values, make_pair, append_entry, entries, copy_property, assign_source, assign_sources, assign, frozen_value, freeze, if_fixed, test_frozen, is_frozen_value, is_frozen, closed_value, prevent_extensions, is_extensible_value, is_extensible, same, tag_of_class, tag_of, to_string, value_of, object_functions, object_row}
+use Rattle.es_rows.specs.Object.{object_of, object_for, object, prototype_expected, undefined_expected, create, get_prototype_of, set_prototype, coercible_expected, set_prototype_of, define_property, get_own_property_descriptor, has_own_property, has_own, receiver_has_own, append_key, get_own_property_names, keys, append_value, values, make_pair, append_entry, entries, copy_property, assign_source, assign_sources, assign, frozen_value, freeze, if_fixed, test_frozen, is_frozen_value, is_frozen, closed_value, prevent_extensions, is_extensible_value, is_extensible, same, tag_of_class, tag_of, to_string, value_of, object_row}
 use Rattle.es_rows.proofs.ArgumentsRelated.{first_related, second_related, third_related, rest_related, object_expected_related, BuiltInRelated, BothEnd, BothRow, call_row_related}
 use Rattle.es_rows.proofs.KeysRelated.{BodiesRelated, each_key_related, each_key_turn_related, enumerable_only_related, string_of_key_related, to_descriptor_related, from_property_related}
 

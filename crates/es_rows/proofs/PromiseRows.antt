@@ -1,9 +1,9 @@
 -- Each function of Promise and of Promise.prototype, and both kinds of resolving functions, once on a plain call and once on
 -- its refusal.
-use Rattle.std.proofs.Common.{◌≡◌, ℕ, true, false, List, [], ◌∷◌, refl, Option, Some, None, pos, codes}
-use Rattle.js_value.specs.Value.{Value, Undefined, Null, Boolean, Number, String, Object}
+use Rattle.std.proofs.Common.{◌≡◌, true, false, List, [], ◌∷◌, refl, Option, Some, None, pos, codes}
+use Rattle.js_value.specs.Value.{Value, Undefined, Number, Object}
 use Rattle.js_value.specs.Store.{Thing, AnObject, AMark, Promise, PromiseState, Pending, Fulfilled, Rejected, Reaction, ResolveFunction, RejectFunction}
-use Rattle.js_value.specs.Job.{FulfilJob, RejectJob, ThenableJob}
+use Rattle.js_value.specs.Job.{RejectJob, ThenableJob}
 use Rattle.es_ops.specs.State.{some_slots}
 use Rattle.es_ops.specs.Messages.{NotAFunction, CalledWithoutNew, NoProperties, WrongReceiver, text_of_message}
 use Rattle.es_rows.specs.Promise.{promise, resolve, reject, then_function, catch_function, resolve_function, reject_function}

@@ -1,6 +1,6 @@
 -- The functions of Promise and of Promise.prototype, and resolving functions, are the same but for the numbers of things.
-use Rattle.std.proofs.Common.{ℕ, List, [], ◌∷◌, refl, Option, Some, None, codes}
-use Rattle.js_value.specs.Value.{Value, Object, Named}
+use Rattle.std.proofs.Common.{ℕ, List, refl, Option, codes}
+use Rattle.js_value.specs.Value.{Value, Named}
 use Rattle.js_value.specs.Store.{Class}
 use Rattle.js_value.specs.Order.{IsOrderly}
 use Rattle.es_ops.specs.Intrinsics.{PromisePrototype}

@@ -1,13 +1,13 @@
 -- The realm is well-formed: its things are tested one by one, and each test tells what it says.
-use Rattle.std.proofs.Common.{◌≡◌, ℕ, zero, suc, ◌<◌, Bool, true, false, cond, ◌&&◌, nat_lt, nat_le, List, [], ◌∷◌, length, ℤ, pos, unsigned_abs, Option, Some, None, slice_get, refl, sym, arith, lit≤, true≢false}
+use Rattle.std.proofs.Common.{◌≡◌, ℕ, zero, suc, ◌<◌, Bool, true, false, ◌&&◌, nat_lt, nat_le, List, [], ◌∷◌, length, unsigned_abs, Option, Some, None, slice_get, refl, sym, arith, true≢false}
 use Rattle.std.specs.List.{list_all}
 use Rattle.std.proofs.lemmas.Bool.Decides.{nat_tests}
-use Rattle.js_value.specs.Number.{IsNumber, greatest}
+use Rattle.js_value.specs.Number.{greatest}
 use Rattle.js_value.specs.NumberText.{index_of_text}
 use Rattle.js_value.specs.Literal.{digits_number}
 use Rattle.js_value.specs.Value.{Value, Undefined, Null, Boolean, Number, String, Object, Text, same_text}
-use Rattle.js_value.specs.Store.{Store, Content, Data, Accessor, Property, Class, Ordinary, Array, ScriptFunction, BuiltInFunction, ResolveFunction, RejectFunction, Error, Promise, ObjectRecord, Thing, AnObject, ACell, AMark, CellRecord, found, no_object, no_cell, as_object, as_cell, object_in, cell_in, length_name}
-use Rattle.js_value.specs.Order.{IsString, IsName, Distinct, AreNames, FitsLength, NoLength, IsOrderly}
+use Rattle.js_value.specs.Store.{Store, Content, Data, Accessor, Property, Class, Ordinary, Array, ScriptFunction, BuiltInFunction, ResolveFunction, RejectFunction, Error, Promise, ObjectRecord, Thing, found, no_object, as_object, as_cell, object_in, cell_in, length_name}
+use Rattle.js_value.specs.Order.{Distinct, AreNames, FitsLength, NoLength, IsOrderly}
 use Rattle.js_value.specs.WellFormed.{IsValueBelow, IfValueBelow, IfNumberBelow, AreNumbersBelow, IsContentBelow, ArePropertiesBelow, IsClassBelow, IsObjectBelow, ChainEnds, Ended, Next, IsWellFormed}
 use Rattle.js_value.proofs.Ascii.{and_left, and_right}
 use Rattle.js_value.proofs.Profile.{is_string, string_tested}

@@ -1,7 +1,7 @@
 -- The realm, looked at in places.
-use Rattle.std.proofs.Common.{◌≡◌, ℕ, Bool, true, false, List, [], ◌∷◌, length, map, refl, pos, negsuc, Option, Some, None, slice_get, codes}
-use Rattle.js_value.specs.Value.{Value, Undefined, Number, String, Object, Text, Named}
-use Rattle.js_value.specs.Store.{Class, Ordinary, Array, BuiltInFunction, Property, Data, object_in, cell_in, own_property}
+use Rattle.std.proofs.Common.{◌≡◌, true, List, [], ◌∷◌, length, map, refl, pos, negsuc, Option, Some, None, slice_get, codes}
+use Rattle.js_value.specs.Value.{Value, Number, String, Object, Text, Named}
+use Rattle.js_value.specs.Store.{Class, Ordinary, Array, BuiltInFunction, Property, object_in, cell_in, own_property}
 use Rattle.es_ops.specs.Intrinsics.{Intrinsic, place_of, ObjectPrototype, FunctionPrototype, ErrorPrototype, RangeErrorPrototype, ReferenceErrorPrototype, SyntaxErrorPrototype, TypeErrorPrototype, BooleanPrototype, NumberPrototype, MathObject, PromisePrototype, StringPrototype, ArrayPrototype, ObjectFunction, FunctionFunction, ErrorFunction, RangeErrorFunction, ReferenceErrorFunction, SyntaxErrorFunction, TypeErrorFunction, BooleanFunction, NumberFunction, ParseIntFunction, PromiseFunction, StringFunction, ArrayFunction, PrintCell, ReadCell}
 use Rattle.es_ops.specs.Errors.{hidden}
 use Rattle.es_ops.specs.Jobs.{fixed_data}

@@ -1,9 +1,9 @@
 -- A small world for the rows of built-in functions, and ways to look at what a call came to.
 use Rattle.std.proofs.Common.{ℕ, true, false, cond, List, [], ◌∷◌, Option, Some, None, slice_get, pos, codes, ◌==◌}
 use Rattle.js_value.specs.Value.{Value, Undefined, Number, String, Object, Text, same_text}
-use Rattle.js_value.specs.Store.{Thing, AnObject, ObjectRecord, Class, Ordinary, Array, BuiltInFunction, Error, Property, Content, Data, Accessor, Store, found}
+use Rattle.js_value.specs.Store.{Thing, AnObject, ObjectRecord, Class, Ordinary, Array, BuiltInFunction, Property, Content, Data, Accessor, Store, found}
 use Rattle.js_value.specs.declared.counts.Room.{Room}
-use Rattle.es_ops.specs.State.{World, State, nothing}
+use Rattle.es_ops.specs.State.{State, nothing}
 use Rattle.es_ops.specs.Ledger.{Stop}
 use Rattle.es_ops.specs.Act.{Act, Ran, Ends, Halts, Calls, NormalCompletion, ThrowCompletion}
 use Rattle.js_value.specs.Store.{object_in, cell_in, mark_in, own_property, with_property, without_property, is_frozen}

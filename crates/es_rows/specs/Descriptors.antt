@@ -1,10 +1,10 @@
 -- Property descriptors from and to objects (ECMA-262 6.2.6.4, 6.2.6.5).
-use Rattle.std.specs.Prelude.{ℕ, Bool, true, false, cond, ◌&&◌, Option, Some, None, codes}
-use Rattle.js_value.specs.Value.{Value, Undefined, Boolean, Object, Text, Key, Named}
+use Rattle.std.specs.Prelude.{ℕ, Bool, cond, ◌&&◌, Option, Some, None, codes}
+use Rattle.js_value.specs.Value.{Value, Undefined, Boolean, Object, Text, Named}
 use Rattle.js_value.specs.Store.{Property, Content, Data, Accessor}
-use Rattle.es_ops.specs.InternalMethods.{PropertyDescriptor, no_fields, is_accessor_descriptor, is_data_descriptor}
+use Rattle.es_ops.specs.InternalMethods.{PropertyDescriptor, is_accessor_descriptor, is_data_descriptor}
 use Rattle.es_ops.specs.Messages.{NotAFunction, NotDefinable}
-use Rattle.es_ops.specs.Act.{Act, Give}
+use Rattle.es_ops.specs.Act.{Act}
 use Rattle.es_ops.specs.Errors.{raise}
 use Rattle.es_ops.specs.PropertyReads.{is_callable, get, has_property}
 use Rattle.es_ops.specs.PropertyWrites.{create_data_property_or_throw}

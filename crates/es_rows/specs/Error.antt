@@ -1,5 +1,5 @@
 -- The Error constructor, those of the kinds of errors, and Error.prototype.toString (ECMA-262 20.5): rows 25 to 30.
-use Rattle.std.specs.Prelude.{ℕ, true, false, List, [], ◌∷◌, ◌++◌, Option, Some, None, codes}
+use Rattle.std.specs.Prelude.{ℕ, false, List, [], ◌∷◌, ◌++◌, Option, Some, None, codes}
 use Rattle.js_value.specs.Value.{Value, Undefined, Number, String, Object, Text, Named}
 use Rattle.js_value.specs.NumberText.{text_of_number}
 use Rattle.js_value.specs.Store.{Error, ObjectRecord, AnObject}

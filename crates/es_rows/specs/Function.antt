@@ -1,10 +1,9 @@
 -- The Function constructor and Function.prototype (ECMA-262 20.2): rows 21 to 24.
-use Rattle.std.specs.Prelude.{ℕ, zero, suc, cond, nat_lt, List, [], ◌∷◌, ◌++◌, drop, pos, Option, Some, None}
-use Rattle.js_value.specs.Value.{Value, Undefined, Null, Object, key_of_number}
+use Rattle.std.specs.Prelude.{ℕ, zero, suc, cond, nat_lt, List, [], ◌∷◌, ◌++◌, drop, Option, None}
+use Rattle.js_value.specs.Value.{Value, Undefined, Null}
 use Rattle.es_ops.specs.Messages.{InvalidArgument, NotAConstructor}
 use Rattle.es_ops.specs.Act.{Act, Give, Turn, Call}
 use Rattle.es_ops.specs.Errors.{raise}
-use Rattle.es_ops.specs.PropertyReads.{get}
 use Rattle.es_rows.specs.Arguments.{first, second, object_expected, callable_expected}
 use Rattle.es_rows.specs.ArrayLikes.{length_of_array_like, get_index}
 use Rattle.es_rows.specs.Table.{BuiltIn, call_row}

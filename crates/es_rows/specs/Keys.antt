@@ -1,7 +1,7 @@
 -- Own keys in order, one after another: no list of them is kept (own), so that each is the key at its place as the object
 -- stands then.
-use Rattle.std.specs.Prelude.{ℕ, zero, suc, Bool, cond, pos, Option, Some, None}
-use Rattle.js_value.specs.Value.{Value, String, Text, Key, Index, Named, Numeral}
+use Rattle.std.specs.Prelude.{ℕ, zero, suc, cond, pos, Option, Some, None}
+use Rattle.js_value.specs.Value.{Value, String, Key, Index, Named, Numeral}
 use Rattle.js_value.specs.NumberText.{text_of_number}
 use Rattle.js_value.specs.Store.{Property}
 use Rattle.es_ops.specs.InternalMethods.{longest}

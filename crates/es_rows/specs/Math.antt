@@ -1,5 +1,5 @@
 -- The functions of Math (ECMA-262 21.3.2): rows 38 to 43. Own: undefined is no number, nor the maximum or minimum of none.
-use Rattle.std.specs.Prelude.{ℕ, zero, suc, Bool, cond, List, [], ◌∷◌, ℤ, pos, negsuc, unsigned_abs, int_lt, Option}
+use Rattle.std.specs.Prelude.{ℕ, zero, suc, cond, List, [], ◌∷◌, ℤ, pos, negsuc, unsigned_abs, int_lt, Option}
 use Rattle.js_value.specs.Word.{word_product, leading_zero_bits}
 use Rattle.js_value.specs.Value.{Value, Number}
 use Rattle.es_ops.specs.Messages.{NumberOutOfRange}

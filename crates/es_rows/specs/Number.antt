@@ -1,12 +1,12 @@
 -- The Number function, its functions, and Number.prototype.toString (ECMA-262 21.1): rows 33 to 37.
-use Rattle.std.specs.Prelude.{ℕ, Bool, true, false, cond, ◌&&◌, ◌||◌, ◌==◌, nat_lt, nat_le, List, [], ◌∷◌, drop, ℤ, pos, negsuc, unsigned_abs, Option, Some, None}
+use Rattle.std.specs.Prelude.{ℕ, Bool, true, false, cond, ◌&&◌, ◌||◌, ◌==◌, nat_lt, nat_le, List, [], ◌∷◌, drop, ℤ, pos, negsuc, unsigned_abs, Option, None}
 use Rattle.std.specs.Char.{digit_value}
 use Rattle.js_value.specs.Number.{greatest}
 use Rattle.js_value.specs.Word.{to_int32}
 use Rattle.js_value.specs.Numeral.{number_text}
 use Rattle.js_value.specs.Literal.{trim_start, digits_number, positive, negative}
 use Rattle.js_value.specs.Value.{Value, Boolean, Number, Text}
-use Rattle.es_ops.specs.Messages.{NumberOutOfRange, InvalidArgument, WrongReceiver}
+use Rattle.es_ops.specs.Messages.{InvalidArgument, WrongReceiver}
 use Rattle.es_ops.specs.Act.{Act, Give}
 use Rattle.es_ops.specs.Errors.{raise, make_text}
 use Rattle.es_ops.specs.Conversions.{number_expected, text_expected, number_or_raise}

@@ -1,7 +1,7 @@
 -- The Object constructor, its functions, and Object.prototype (ECMA-262 20.1): rows 1 to 20.
 use Rattle.std.specs.Prelude.{ℕ, Bool, true, false, cond, is_some, List, [], ◌∷◌, drop, Option, Some, None, codes}
 use Rattle.js_value.specs.Value.{Value, Undefined, Null, Boolean, Number, String, Object, Text, Key}
-use Rattle.js_value.specs.Store.{Class, Array, Error, AnObject, Property, is_fixed, is_array, callable_class}
+use Rattle.js_value.specs.Store.{Class, Array, Error, AnObject, Property, is_fixed, callable_class}
 use Rattle.es_ops.specs.Equality.{same_value}
 use Rattle.es_ops.specs.Messages.{InvalidArgument, NoProperties, NotAnObject, PrimitiveExpected, PrototypeNotSettable}
 use Rattle.es_ops.specs.Intrinsics.{ObjectPrototype}

@@ -1,8 +1,8 @@
 -- The Promise constructor, its functions, Promise.prototype, and the resolving functions (ECMA-262 27.2): rows 44 to 50.
 -- Own: no constructor or species is read.
-use Rattle.std.specs.Prelude.{ℕ, cond, List, [], ◌∷◌, Option, Some, None, codes}
+use Rattle.std.specs.Prelude.{ℕ, List, [], ◌∷◌, Option, Some, None, codes}
 use Rattle.js_value.specs.Value.{Value, Undefined, Object, Named}
-use Rattle.js_value.specs.Store.{Class, ResolveFunction, RejectFunction, Promise, Pending, ObjectRecord, AnObject}
+use Rattle.js_value.specs.Store.{Class, ResolveFunction, RejectFunction, Promise, AnObject}
 use Rattle.es_ops.specs.Messages.{CalledWithoutNew, WrongReceiver}
 use Rattle.es_ops.specs.Intrinsics.{PromisePrototype}
 use Rattle.es_ops.specs.Events.{TheClass, Make}

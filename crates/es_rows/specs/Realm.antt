@@ -1,10 +1,10 @@
 -- The realm (ECMA-262 9.3): its things in their order, its global names, and the texts that are names from the start (own:
 -- the order of things, of properties and of names).
-use Rattle.std.specs.Prelude.{ℕ, zero, suc, ◌+◌, Bool, true, false, cond, nat_eq, nat_le, nat_lt, ◌&&◌, List, [], ◌∷◌, ◌++◌, map, filter, pos, negsuc, Option, Some, None, codes}
+use Rattle.std.specs.Prelude.{ℕ, zero, suc, ◌+◌, true, false, cond, nat_eq, nat_le, nat_lt, ◌&&◌, List, [], ◌∷◌, ◌++◌, map, filter, pos, negsuc, Option, Some, None, codes}
 use Rattle.std.specs.List.{list_any}
 use Rattle.std.specs.Option.{option_map_or}
 use Rattle.js_value.specs.Value.{Value, Undefined, Number, String, Object, Text, same_text}
-use Rattle.js_value.specs.Store.{Store, Thing, AnObject, ACell, ObjectRecord, Class, Ordinary, Array, BuiltInFunction, Property, Data, found, length_name}
+use Rattle.js_value.specs.Store.{Store, Thing, AnObject, ACell, Class, Ordinary, Array, BuiltInFunction, Property, Data, found, length_name}
 use Rattle.es_ops.specs.Messages.{Message, text_of_message, NumberOutOfRange, StringTooLong, InvalidArrayLength, InvalidArgument, NotDefined, NotInitialised, EmptyArray, SuperCalledTwice, AssignmentToConstant, NotAFunction, NotAConstructor, CalledWithoutNew, NoProperties, NotWritable, NotDefinable, NotDeletable, NotAnObject, NoPrimitiveValue, PrimitiveExpected, AccessorOnIndex, PrototypeNotSettable, ResolvedWithItself, WrongReceiver, ReturnedPrimitive}
 use Rattle.es_ops.specs.Intrinsics.{Intrinsic, place_of, ObjectPrototype, FunctionPrototype, ErrorPrototype, RangeErrorPrototype, ReferenceErrorPrototype, SyntaxErrorPrototype, TypeErrorPrototype, BooleanPrototype, NumberPrototype, MathObject, PromisePrototype, StringPrototype, ArrayPrototype, ObjectFunction, FunctionFunction, ErrorFunction, RangeErrorFunction, ReferenceErrorFunction, SyntaxErrorFunction, TypeErrorFunction, BooleanFunction, NumberFunction, ParseIntFunction, PromiseFunction, StringFunction, ArrayFunction}
 use Rattle.es_ops.specs.Errors.{hidden, message_name}
