@@ -99,7 +99,7 @@ an_error = AnObject (ordinary (Some 1) ((codes "message", plain (String (codes "
 
 texts_of_objects : (told_text an_error (Object 0) ≡ codes "N: m") × (told_text an_error (Object 1) ≡ codes "N") × (told_text an_error (Object 2) ≡ codes "object") × (told_text an_error (Object 3) ≡ codes "object")
 unfolding computing an_error
-texts_of_objects = (refl , refl , refl , refl)
+texts_of_objects = (refl, refl, refl, refl)
 
 -- ---- preloads
 
@@ -154,4 +154,4 @@ two_jobs = engine (Do (Enqueue (FulfilJob Undefined 13 Undefined)) (λ u. Do (En
 
 one_of_two : (jobs_then (Some 1) (started two_jobs main (open_world (rejected ∷ []))) ≡ 99 ∷ []) × (jobs_then (Some 9) (started two_jobs main (open_world (rejected ∷ []))) ≡ []) × (jobs_then (Some 0) (started two_jobs main (open_world (rejected ∷ []))) ≡ 100 ∷ 100 ∷ [])
 unfolding computing main lib modules prints body_of engine world open_world set_up evaluate started gone rejected jobs_then two_jobs
-one_of_two = (refl , refl , refl)
+one_of_two = (refl, refl, refl)

@@ -63,7 +63,7 @@ through_another_module = refl
 
 what_the_host_exports : (resolve_export diamond host (codes "read") ≡ OfHost Read) × (resolve_export diamond host x ≡ NotExported)
 unfolding diamond new_module asks a b c d main host x y
-what_the_host_exports = (refl , refl)
+what_the_host_exports = (refl, refl)
 
 not_among_the_exports : resolve_export diamond d x ≡ NotExported
 unfolding diamond new_module asks a b c d main host x y
@@ -75,7 +75,7 @@ evaluated = new_module main (b ∷ c ∷ []) [] [] ∷ old (new_module b (a ∷ 
 
 evaluated_ones_are_passed_over : (plan evaluated main ≡ Plan (2 ∷ 0 ∷ [])) × (plan evaluated b ≡ Plan [])
 unfolding evaluated old new_module a b c main
-evaluated_ones_are_passed_over = (refl , refl)
+evaluated_ones_are_passed_over = (refl, refl)
 
 -- the first of two modules of one name is found
 twice : List ModuleRecord
@@ -83,12 +83,12 @@ twice = new_module lib [] [] (LocalExport x 0 ∷ []) ∷ new_module lib [] [] (
 
 first_of_one_name : (resolve_export twice lib x ≡ ExportOf 0 0) × (plan twice lib ≡ Plan (0 ∷ []))
 unfolding twice new_module lib x
-first_of_one_name = (refl , refl)
+first_of_one_name = (refl, refl)
 
 -- `host` and a name that no module has are no roots
 no_root : (plan diamond host ≡ Faulty (NoModule host host)) × (plan diamond lib ≡ Faulty (NoModule lib lib))
 unfolding diamond new_module asks b c d main lib host x y
-no_root = (refl , refl)
+no_root = (refl, refl)
 
 -- A request that finds nothing comes before every fault of an export; of two such requests the first one on the way.
 missing : List ModuleRecord
@@ -123,4 +123,4 @@ circle =
 
 comes_back_to_itself : (resolve_export circle a x ≡ Circular) × (plan circle main ≡ Faulty (CircularExport b x))
 unfolding circle new_module asks a b main x y
-comes_back_to_itself = (refl , refl)
+comes_back_to_itself = (refl, refl)

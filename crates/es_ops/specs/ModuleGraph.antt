@@ -156,9 +156,10 @@ without_faults order [] = Plan order
 without_faults order (fault ∷ faults) = Faulty fault
 
 abbrev pub planned : List ModuleRecord → Visited → Planned
-planned ms v = elim v.missing
-    [ Some fault ↦ Faulty fault
-    | None ↦ without_faults v.order (faults_of_modules ms (filter_map (module_at ms) v.order)) ]
+planned ms v = elim v.missing [
+  | Some fault ↦ Faulty fault
+  | None ↦ without_faults v.order (faults_of_modules ms (filter_map (module_at ms) v.order))
+]
 
 -- As the root, `host` is no module (own).
 abbrev pub plan : List ModuleRecord → (root : Text) → Planned
