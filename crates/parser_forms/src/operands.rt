@@ -22,31 +22,6 @@ use es_model::{Expression, ExpressionForm, Identifier, TreeList};
 use js_value::Units;
 use std::alloc::{AllocError, Global};
 
-fn wrapping(form: Wrapping, of: Box<Expression>) -> Expression
-    ensures { result ≡ shapes.wrapped form of.value }
-{
-    let form = match form {
-        Wrapping::SuperIndex { at } => ExpressionForm::SuperIndex { at, key: of },
-        Wrapping::BareNew => ExpressionForm::New {
-            callee: of,
-            arguments: None,
-        },
-        Wrapping::Update { at, up, prefix } => ExpressionForm::Update {
-            at,
-            up,
-            prefix,
-            target: of,
-        },
-        Wrapping::Before { operator, at } => match operator {
-            Prefix::Unary(operator) => ExpressionForm::Unary { operator, of },
-            Prefix::Typeof => ExpressionForm::Typeof(of),
-            Prefix::Void => ExpressionForm::Void(of),
-            Prefix::Delete => ExpressionForm::Delete { at, of },
-        },
-    };
-    Expression { form }
-}
-
 // A name in parentheses is an arrow's head, and so are names with commas between.
 fn enclosed(alloc: Global, heading: Heading) -> Result<Heading, AllocError>
     ensures { IfOk result (λ made. made ≡ p.enclosed heading) }
@@ -215,7 +190,7 @@ impl Stack<Piece> {
     {
         let alloc = self.alloc();
         let is_target = self.is_target();
-        let (of, heading) = self.take_part().into_pair();
+        let Part { of, heading, .. } = self.take_part();
         match paren_tree(alloc, of) {
             Ok(of) => self.put_paren(at, is_target, of, heading),
             Err(error) => {
@@ -386,7 +361,28 @@ impl Stack<Piece> {
         let of = self.take_expression();
         let Kept { tree, nesting } = counted_box(self.alloc(), of)?;
         let tree = match tree {
-            Some(of) => Some(wrapping(form, of)),
+            Some(of) => {
+                let form = match form {
+                    Wrapping::SuperIndex { at } => ExpressionForm::SuperIndex { at, key: of },
+                    Wrapping::BareNew => ExpressionForm::New {
+                        callee: of,
+                        arguments: None,
+                    },
+                    Wrapping::Update { at, up, prefix } => ExpressionForm::Update {
+                        at,
+                        up,
+                        prefix,
+                        target: of,
+                    },
+                    Wrapping::Before { operator, at } => match operator {
+                        Prefix::Unary(operator) => ExpressionForm::Unary { operator, of },
+                        Prefix::Typeof => ExpressionForm::Typeof(of),
+                        Prefix::Void => ExpressionForm::Void(of),
+                        Prefix::Delete => ExpressionForm::Delete { at, of },
+                    },
+                };
+                Some(Expression { form })
+            }
             None => None,
         };
         self.put_part(Kept { tree, nesting }, standing)

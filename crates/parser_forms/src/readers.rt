@@ -5,9 +5,9 @@ ghost use Rattle.std.specs.Prelude.{◌≡◌, IfOk};
 ghost use Rattle.es_model.specs.View.{optional as optional_view};
 ghost use Rattle.es_model.specs.Tree.{present};
 ghost use Rattle.parser_forms.specs.Kept.{around, optional};
-ghost use Rattle.parser_forms.specs.Pieces.{cases_in, declarators_in, expressions_in, first, given_expression, given_name, given_statements, head_in, items_in, key_in, members_in, name_in, names_in, pairs_in, part_in, rest, statement_in, statements_in, text_in, texts_in};
+ghost use Rattle.parser_forms.specs.Pieces.{cases_in, declarators_in, expressions_in, first, given_expression, given_name, given_statements, head_in, items_in, key_in, members_in, name_in, names_in, pairs_in, parent_in, part_in, rest, statement_in, statements_in, text_in, texts_in, under_parent};
 
-use crate::keeping::{flat, lose_piece, option_beside};
+use crate::keeping::{flat, lose, lose_piece, option_beside};
 use crate::parts::{Heading, Kept, KeyPart, Part};
 use crate::pieces::Piece;
 use crate::stack::Stack;
@@ -88,7 +88,10 @@ impl Stack<Piece> {
         ensures { (result ≡ (part_in (first self.old)).of) × (self.new ≡ rest self.old) }
     {
         match self.take() {
-            Piece::Part(part) => part.into_kept(),
+            Piece::Part(Part { of, heading, .. }) => {
+                lose(heading);
+                of
+            }
             other => {
                 lose_piece(other);
                 Kept {
@@ -332,12 +335,26 @@ impl Stack<Piece> {
         }
     }
 
+    /// The expression that was read last, where there is one.
+    pub(crate) fn take_expression_if(&mut self, there: bool) -> Kept<OptionalExpression>
+        ensures { (result ≡ optional (parent_in there self.old)) × (self.new ≡ under_parent there self.old) }
+    {
+        if there {
+            given_expression(self.take_expression())
+        } else {
+            flat(OptionalExpression { tree: None })
+        }
+    }
+
     /// The expression that was read last, which may be left out.
     pub(crate) fn take_given_expression(&mut self) -> Kept<OptionalExpression>
         ensures { (result ≡ optional (given_expression (first self.old))) × (self.new ≡ rest self.old) }
     {
         match self.take() {
-            Piece::Part(part) => given_expression(part.into_kept()),
+            Piece::Part(Part { of, heading, .. }) => {
+                lose(heading);
+                given_expression(of)
+            }
             other => {
                 lose_piece(other);
                 flat(OptionalExpression { tree: None })
