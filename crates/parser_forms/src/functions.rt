@@ -8,7 +8,7 @@ ghost use Rattle.parser_forms.specs.Parts as p;
 ghost use Rattle.parser_forms.specs.Pieces.{first, fourth, given_name, items_in, members_in, names_in, parent_in, part_in, rest, second, statements_in, third, under_parent};
 ghost use Rattle.parser_forms.specs.declared.pieces.Piece.TheVariants as v;
 
-use crate::keeping::{both, box_beside, counted, lose};
+use crate::keeping::{both, counted, lose};
 use crate::parts::Kept;
 use crate::pieces::Piece;
 use crate::readers::boxed_beside;
@@ -98,21 +98,18 @@ impl Stack<Piece> {
     pub fn arrow(&mut self, at: u32) -> Result<(), AllocError>
         ensures { IfOk result (λ done. self.new ≡ v.Part (p.arrow at (names_in (second self.old)) (part_in (first self.old))) ∷ rest (rest self.old)) }
     {
-        let Kept { tree, nesting } = counted(self.take_expression());
+        let Kept { tree, nesting } = self.take_counted_expression()?;
         let parameters = self.take_names();
         let tree = match tree {
-            Some(value) => {
-                let (value, parameters) = box_beside(self.alloc(), value, parameters)?;
-                Some(FunctionTree {
-                    tree: Function {
-                        at,
-                        name: None,
-                        kind: FunctionKind::Arrow,
-                        parameters,
-                        body: FunctionBody::Expression(value),
-                    },
-                })
-            }
+            Some(value) => Some(FunctionTree {
+                tree: Function {
+                    at,
+                    name: None,
+                    kind: FunctionKind::Arrow,
+                    parameters,
+                    body: FunctionBody::Expression(value),
+                },
+            }),
             None => {
                 lose(parameters);
                 None

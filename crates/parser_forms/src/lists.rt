@@ -89,10 +89,10 @@ impl Stack<Piece> {
     pub fn head_value(&mut self) -> Result<(), AllocError>
         ensures { IfOk result (λ done. self.new ≡ v.Head (p.head_value (part_in (first self.old)).of) ∷ rest self.old) }
     {
-        let Kept { tree, nesting } = self.take_expression();
+        let Kept { tree, nesting } = self.take_boxed_expression()?;
         let tree = match tree {
             Some(of) => {
-                let tree = Head::Value(Box::new(self.alloc(), of)?);
+                let tree = Head::Value(of);
                 Some(HeadTree { tree })
             }
             None => None,

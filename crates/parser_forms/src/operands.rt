@@ -205,10 +205,9 @@ impl Stack<Piece> {
         ensures { IfOk result (λ done. self.new ≡ v.Part (p.dot (part_in (first self.old)) name) ∷ rest self.old) }
     {
         let standing = Standing::target(self.at(), self.has_call());
-        let Kept { tree, nesting } = counted(self.take_expression());
+        let Kept { tree, nesting } = self.take_counted_expression()?;
         let tree = match tree {
             Some(of) => {
-                let (of, name) = box_beside(self.alloc(), of, name)?;
                 let form = ExpressionForm::Dot { of, name };
                 Some(Expression { form })
             }
@@ -358,8 +357,7 @@ impl Stack<Piece> {
     pub(crate) fn wrap(&mut self, form: Wrapping, standing: Standing) -> Result<(), AllocError>
         ensures { IfOk result (λ done. self.new ≡ v.Part (shapes.standing (one_more (around (shapes.wrapped form) (part_in (first self.old)).of)) standing) ∷ rest self.old) }
     {
-        let of = self.take_expression();
-        let Kept { tree, nesting } = counted_box(self.alloc(), of)?;
+        let Kept { tree, nesting } = self.take_counted_expression()?;
         let tree = match tree {
             Some(of) => {
                 let form = match form {

@@ -8,17 +8,15 @@ ghost use Rattle.parser_forms.specs.Parts as p;
 ghost use Rattle.parser_forms.specs.Pieces.{declarators_in, first, fourth, given_expression, given_name, given_statements, head_in, name_in, part_in, rest, second, statement_in, statements_in, third};
 ghost use Rattle.parser_forms.specs.declared.pieces.Piece.TheVariants as v;
 
-use crate::keeping::{
-    both, box_beside, counted, counted_box, flat, lose, push, three_boxes, two_boxes,
-};
+use crate::keeping::{both, box_beside, counted, lose, push, three_boxes, two_boxes};
 use crate::kinds::Bare;
 use crate::parts::Kept;
 use crate::pieces::Piece;
 use crate::readers::boxed_beside;
 use crate::shapes::{Bodied, Empty, Valued};
 use crate::stack::Stack;
-use crate::trees::{HeadTree, OptionalExpression, OptionalStatements, Statements};
-use es_model::{Expression, Identifier, Semi, Statement, StatementForm};
+use crate::trees::{HeadTree, OptionalExpression, Statements};
+use es_model::{Semi, Statement, StatementForm};
 use std::alloc::{AllocError, Global};
 
 fn for_tree(
@@ -241,8 +239,7 @@ impl Stack<Piece> {
     fn put_valued(&mut self, form: Valued) -> Result<(), AllocError>
         ensures { IfOk result (λ done. self.new ≡ v.Statement (one_more (around (shapes.valued form) (part_in (first self.old)).of)) ∷ rest self.old) }
     {
-        let of = self.take_expression();
-        let Kept { tree, nesting } = counted_box(self.alloc(), of)?;
+        let Kept { tree, nesting } = self.take_counted_expression()?;
         let tree = match tree {
             Some(value) => {
                 let form = match form {
