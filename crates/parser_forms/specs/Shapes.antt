@@ -1,6 +1,7 @@
 -- Forms that are made alike: each with what tells it from its like.
-use Rattle.std.specs.Prelude.{ℕ, Bool, true, false, Option, Some, None, []}
-use Rattle.es_model.specs.declared.names.Identifier.{Identifier}
+use Rattle.std.specs.Prelude.{ℕ, Bool, true, false, List, Option, Some, None}
+use Rattle.es_model.specs.declared.kinds.Semi.{Semi}
+use Rattle.es_model.specs.declared.names.Pair.{Pair}
 use Rattle.es_model.specs.declared.kinds.FunctionKind.{FunctionKind}
 use Rattle.es_model.specs.declared.kinds.MemberKind.{MemberKind}
 use Rattle.es_model.specs.Tree as t
@@ -21,6 +22,10 @@ use Rattle.parser_forms.specs.declared.shapes.Valued.{Valued}
 use Rattle.parser_forms.specs.declared.shapes.Valued.TheVariants as values
 use Rattle.parser_forms.specs.declared.shapes.Bodied.{Bodied}
 use Rattle.parser_forms.specs.declared.shapes.Bodied.TheVariants as bodies
+use Rattle.parser_forms.specs.declared.shapes.Stated.{Stated}
+use Rattle.parser_forms.specs.declared.shapes.Stated.TheVariants as statements
+use Rattle.parser_forms.specs.declared.shapes.Paired.{Paired}
+use Rattle.parser_forms.specs.declared.shapes.Paired.TheVariants as pairs
 use Rattle.parser_forms.specs.Kept.{Sorted, none}
 use Rattle.parser_forms.specs.Parts as p
 
@@ -59,6 +64,16 @@ valued (values.Throw mark) tree = t.Throw tree mark
 abbrev pub bodied : Bodied → Tree t.expression → Tree t.statement → Tree t.statement
 bodied bodies.While test body = t.While test body
 bodied bodies.If test body = t.If test body t.absent
+
+-- items of a statement, and of pairs of names
+abbrev pub stated : Stated → Tree t.statement → Tree t.item
+stated statements.Plain tree = t.Plain tree
+stated statements.Exported tree = t.ExportDeclaration tree
+
+abbrev pub paired : Paired → List Pair → Semi → Tree t.item
+paired (pairs.Import from) names mark = t.Import from names mark
+paired (pairs.ExportFrom from) names mark = t.ExportFrom from names mark
+paired pairs.ExportNames names mark = t.ExportNames names mark
 
 -- the kind of a method; in a class it is said whether that has a parent
 abbrev pub own_kind : MemberKind → Bool → Option Bool → Bool → FunctionKind

@@ -3,18 +3,18 @@
 ghost use Rattle.std.specs.Prelude.{◌∷◌, None, ◌≡◌, IfOk};
 ghost use Rattle.es_model.specs.declared.kinds.FunctionKind.TheVariants as kinds;
 ghost use Rattle.es_model.specs.Tree as t;
-ghost use Rattle.parser_forms.specs.Kept.{and_then, around, counted as one_more, optional};
+ghost use Rattle.parser_forms.specs.Kept.{and_then, around, counted as one_more};
 ghost use Rattle.parser_forms.specs.Parts as p;
 ghost use Rattle.parser_forms.specs.Pieces.{first, fourth, given_name, items_in, members_in, names_in, parent_in, part_in, rest, second, statements_in, third, under_parent};
 ghost use Rattle.parser_forms.specs.declared.pieces.Piece.TheVariants as v;
 
-use crate::keeping::{both, box_beside, counted, flat, lose};
+use crate::keeping::{both, counted, lose};
 use crate::parts::Kept;
 use crate::pieces::Piece;
-use crate::readers::{boxed_beside, given_expression};
+use crate::readers::boxed_beside;
 use crate::shapes::Standing;
 use crate::stack::Stack;
-use crate::trees::{ClassTree, FunctionTree, ItemTree, OptionalExpression, Statements};
+use crate::trees::{ClassTree, FunctionTree, ItemTree, Statements};
 use es_model::{
     Class, Default, Expression, ExpressionForm, Function, FunctionBody, FunctionKind, Identifier,
     Item, Semi, Statement, StatementForm, TreeList,
@@ -98,21 +98,18 @@ impl Stack<Piece> {
     pub fn arrow(&mut self, at: u32) -> Result<(), AllocError>
         ensures { IfOk result (λ done. self.new ≡ v.Part (p.arrow at (names_in (second self.old)) (part_in (first self.old))) ∷ rest (rest self.old)) }
     {
-        let Kept { tree, nesting } = counted(self.take_expression());
+        let Kept { tree, nesting } = self.take_counted_expression()?;
         let parameters = self.take_names();
         let tree = match tree {
-            Some(value) => {
-                let (value, parameters) = box_beside(self.alloc(), value, parameters)?;
-                Some(FunctionTree {
-                    tree: Function {
-                        at,
-                        name: None,
-                        kind: FunctionKind::Arrow,
-                        parameters,
-                        body: FunctionBody::Expression(value),
-                    },
-                })
-            }
+            Some(value) => Some(FunctionTree {
+                tree: Function {
+                    at,
+                    name: None,
+                    kind: FunctionKind::Arrow,
+                    parameters,
+                    body: FunctionBody::Expression(value),
+                },
+            }),
             None => {
                 lose(parameters);
                 None
@@ -215,23 +212,12 @@ impl Stack<Piece> {
         self.put_part(Kept { tree, nesting }, Standing::plain(at, level))
     }
 
-    // The parent of a class, which a derived one has.
-    fn take_parent(&mut self, derived: bool) -> Kept<OptionalExpression>
-        ensures { (result ≡ optional (parent_in derived self.old)) × (self.new ≡ under_parent derived self.old) }
-    {
-        if derived {
-            given_expression(self.take_expression())
-        } else {
-            flat(OptionalExpression { tree: None })
-        }
-    }
-
     // A class.
     fn take_class(&mut self, at: u32, derived: bool) -> Result<Kept<ClassTree>, AllocError>
         ensures { IfOk result (λ made. (made ≡ p.class at (given_name (first (under_parent derived (rest self.old)))) (parent_in derived (rest self.old)) (members_in (first self.old))) × (self.new ≡ rest (under_parent derived (rest self.old)))) }
     {
         let members = self.take_members();
-        let parent = self.take_parent(derived);
+        let parent = self.take_expression_if(derived);
         let own = self.take_given_name();
         let Kept { tree, nesting } = counted(both(parent, members));
         let tree = match tree {

@@ -7,7 +7,7 @@ ghost use Rattle.parser_forms.specs.Parts as p;
 use es_model::{BinaryOperator, Semi, UnaryOperator};
 
 /// An operator between two operands.
-#[derive(Clone, Copy, PartialEq, Eq)]
+#[derive(Clone, Copy)]
 pub enum Infix {
     Binary(BinaryOperator),
     In,
@@ -19,7 +19,7 @@ pub enum Infix {
 }
 
 /// An operator before its operand; `++` and `--` are none.
-#[derive(Clone, Copy, PartialEq, Eq)]
+#[derive(Clone, Copy)]
 pub enum Prefix {
     Unary(UnaryOperator),
     Typeof,
@@ -28,7 +28,7 @@ pub enum Prefix {
 }
 
 /// A statement with nothing in it; `at` is the place of its word.
-#[derive(Clone, Copy, PartialEq, Eq)]
+#[derive(Clone, Copy)]
 pub enum Bare {
     Empty,
     Break { at: u32, semi: Semi },

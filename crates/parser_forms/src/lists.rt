@@ -2,20 +2,19 @@
 //! (ECMA-262, 14.3, 14.7 and 14.12).
 
 ghost use Rattle.std.specs.Prelude.{◌∷◌, Some, None, ◌≡◌, IfOk};
-ghost use Rattle.es_model.specs.Tree as t;
-ghost use Rattle.parser_forms.specs.Kept.{and_then, around, both as side_by_side, none};
+ghost use Rattle.parser_forms.specs.Kept.{and_then, none};
 ghost use Rattle.parser_forms.specs.Parts as p;
-ghost use Rattle.parser_forms.specs.Pieces.{cases_in, declarators_in, first, name_in, part_in, rest, second, statements_in, third};
+ghost use Rattle.parser_forms.specs.Pieces.{cases_in, declarators_in, first, name_in, parent_in, part_in, rest, second, statements_in, third, under_parent};
 ghost use Rattle.parser_forms.specs.declared.pieces.Piece.TheVariants as v;
 
-use crate::keeping::{both, box_beside, counted, flat, lose, push};
+use crate::keeping::{both, box_beside, counted, lose, push};
 use crate::parts::Kept;
 use crate::pieces::Piece;
-use crate::readers::{boxed_beside, given_expression};
+use crate::readers::boxed_beside;
 use crate::shapes::Empty;
 use crate::stack::Stack;
-use crate::trees::{Cases, Declarators, HeadTree, OptionalExpression, Statements};
-use es_model::{Case, Declarator, Head, Identifier, Statement, StatementForm};
+use crate::trees::{Cases, Declarators, HeadTree};
+use es_model::{Case, Declarator, Head, Statement, StatementForm};
 use std::alloc::AllocError;
 
 impl Stack<Piece> {
@@ -30,17 +29,14 @@ impl Stack<Piece> {
     pub fn and_declarator(&mut self) -> Result<(), AllocError>
         ensures { IfOk result (λ done. self.new ≡ v.Declarators (and_then (declarators_in (third self.old)) (p.declarator (name_in (second self.old)) (Some (part_in (first self.old)).of))) ∷ rest (rest (rest self.old))) }
     {
-        let value = given_expression(self.take_expression());
-        let own = self.take_name();
-        self.put_declarator(own, value)
+        self.put_declarator(true)
     }
 
     /// The list of declared names, and behind it a name without one.
     pub fn and_bare_declarator(&mut self) -> Result<(), AllocError>
         ensures { IfOk result (λ done. self.new ≡ v.Declarators (and_then (declarators_in (second self.old)) (p.declarator (name_in (first self.old)) None)) ∷ rest (rest self.old)) }
     {
-        let own = self.take_name();
-        self.put_declarator(own, flat(OptionalExpression { tree: None }))
+        self.put_declarator(false)
     }
 
     /// No cases of a switch.
@@ -54,17 +50,14 @@ impl Stack<Piece> {
     pub fn and_case(&mut self) -> Result<(), AllocError>
         ensures { IfOk result (λ done. self.new ≡ v.Cases (and_then (cases_in (third self.old)) (p.case (Some (part_in (second self.old)).of) (statements_in (first self.old)))) ∷ rest (rest (rest self.old))) }
     {
-        let body = self.take_statements();
-        let test = given_expression(self.take_expression());
-        self.put_case(test, body)
+        self.put_case(true)
     }
 
     /// The list of cases, and behind it the default with its statements.
     pub fn and_default_case(&mut self) -> Result<(), AllocError>
         ensures { IfOk result (λ done. self.new ≡ v.Cases (and_then (cases_in (second self.old)) (p.case None (statements_in (first self.old)))) ∷ rest (rest self.old)) }
     {
-        let body = self.take_statements();
-        self.put_case(flat(OptionalExpression { tree: None }), body)
+        self.put_case(false)
     }
 
     /// A switch.
@@ -96,10 +89,10 @@ impl Stack<Piece> {
     pub fn head_value(&mut self) -> Result<(), AllocError>
         ensures { IfOk result (λ done. self.new ≡ v.Head (p.head_value (part_in (first self.old)).of) ∷ rest self.old) }
     {
-        let Kept { tree, nesting } = self.take_expression();
+        let Kept { tree, nesting } = self.take_boxed_expression()?;
         let tree = match tree {
             Some(of) => {
-                let tree = Head::Value(Box::new(self.alloc(), of)?);
+                let tree = Head::Value(of);
                 Some(HeadTree { tree })
             }
             None => None,
@@ -123,15 +116,13 @@ impl Stack<Piece> {
         self.push(Piece::Head(Kept { tree, nesting }))
     }
 
-    // The list of declared names, and one more behind it.
+    // The list of declared names, and one more behind it, which may have an initialiser.
     #[tactic(auto, using(crate::proofs::ListLaws::mapped_last))]
-    fn put_declarator(
-        &mut self,
-        own: Identifier,
-        value: Kept<OptionalExpression>,
-    ) -> Result<(), AllocError>
-        ensures { IfOk result (λ done. self.new ≡ v.Declarators (and_then (declarators_in (first self.old)) (around (t.DeclaratorOf own) value)) ∷ rest self.old) }
+    fn put_declarator(&mut self, initialised: bool) -> Result<(), AllocError>
+        ensures { IfOk result (λ done. self.new ≡ v.Declarators (and_then (declarators_in (second (under_parent initialised self.old))) (p.declarator (name_in (first (under_parent initialised self.old))) (parent_in initialised self.old))) ∷ rest (rest (under_parent initialised self.old))) }
     {
+        let value = self.take_expression_if(initialised);
+        let own = self.take_name();
         let Kept { tree, nesting } = both(self.take_declarators(), value);
         let tree = match tree {
             Some((list, value)) => {
@@ -147,16 +138,14 @@ impl Stack<Piece> {
         self.push(Piece::Declarators(Kept { tree, nesting }))
     }
 
-    // The list of cases, and one more behind it.
+    // The list of cases, and one more behind it, which may have a test.
     #[tactic(auto, using(crate::proofs::ListLaws::mapped_last))]
-    fn put_case(
-        &mut self,
-        test: Kept<OptionalExpression>,
-        body: Kept<Statements>,
-    ) -> Result<(), AllocError>
-        ensures { IfOk result (λ done. self.new ≡ v.Cases (and_then (cases_in (first self.old)) (side_by_side t.CaseOf test body)) ∷ rest self.old) }
+    fn put_case(&mut self, tested: bool) -> Result<(), AllocError>
+        ensures { IfOk result (λ done. self.new ≡ v.Cases (and_then (cases_in (first (under_parent tested (rest self.old)))) (p.case (parent_in tested (rest self.old)) (statements_in (first self.old)))) ∷ rest (under_parent tested (rest self.old))) }
     {
-        let Kept { tree, nesting } = both(self.take_cases(), both(test, body));
+        let body = self.take_statements();
+        let case = both(self.take_expression_if(tested), body);
+        let Kept { tree, nesting } = both(self.take_cases(), case);
         let tree = match tree {
             Some((list, (test, body))) => {
                 let (test, (body, list)) = boxed_beside(self.alloc(), test, (body, list))?;

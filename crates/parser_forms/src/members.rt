@@ -121,10 +121,10 @@ impl Stack<Piece> {
     pub fn computed_key(&mut self) -> Result<(), AllocError>
         ensures { IfOk result (λ done. self.new ≡ v.Key (p.computed_key (part_in (first self.old))) ∷ rest self.old) }
     {
-        let Kept { tree, nesting } = self.take_expression();
+        let Kept { tree, nesting } = self.take_boxed_expression()?;
         let tree = match tree {
             Some(of) => Some(KeyTree {
-                tree: Key::Computed(Box::new(self.alloc(), of)?),
+                tree: Key::Computed(of),
             }),
             None => None,
         };

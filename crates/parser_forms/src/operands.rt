@@ -22,31 +22,6 @@ use es_model::{Expression, ExpressionForm, Identifier, TreeList};
 use js_value::Units;
 use std::alloc::{AllocError, Global};
 
-fn wrapping(form: Wrapping, of: Box<Expression>) -> Expression
-    ensures { result ≡ shapes.wrapped form of.value }
-{
-    let form = match form {
-        Wrapping::SuperIndex { at } => ExpressionForm::SuperIndex { at, key: of },
-        Wrapping::BareNew => ExpressionForm::New {
-            callee: of,
-            arguments: None,
-        },
-        Wrapping::Update { at, up, prefix } => ExpressionForm::Update {
-            at,
-            up,
-            prefix,
-            target: of,
-        },
-        Wrapping::Before { operator, at } => match operator {
-            Prefix::Unary(operator) => ExpressionForm::Unary { operator, of },
-            Prefix::Typeof => ExpressionForm::Typeof(of),
-            Prefix::Void => ExpressionForm::Void(of),
-            Prefix::Delete => ExpressionForm::Delete { at, of },
-        },
-    };
-    Expression { form }
-}
-
 // A name in parentheses is an arrow's head, and so are names with commas between.
 fn enclosed(alloc: Global, heading: Heading) -> Result<Heading, AllocError>
     ensures { IfOk result (λ made. made ≡ p.enclosed heading) }
@@ -215,7 +190,7 @@ impl Stack<Piece> {
     {
         let alloc = self.alloc();
         let is_target = self.is_target();
-        let (of, heading) = self.take_part().into_pair();
+        let Part { of, heading, .. } = self.take_part();
         match paren_tree(alloc, of) {
             Ok(of) => self.put_paren(at, is_target, of, heading),
             Err(error) => {
@@ -230,10 +205,9 @@ impl Stack<Piece> {
         ensures { IfOk result (λ done. self.new ≡ v.Part (p.dot (part_in (first self.old)) name) ∷ rest self.old) }
     {
         let standing = Standing::target(self.at(), self.has_call());
-        let Kept { tree, nesting } = counted(self.take_expression());
+        let Kept { tree, nesting } = self.take_counted_expression()?;
         let tree = match tree {
             Some(of) => {
-                let (of, name) = box_beside(self.alloc(), of, name)?;
                 let form = ExpressionForm::Dot { of, name };
                 Some(Expression { form })
             }
@@ -383,10 +357,30 @@ impl Stack<Piece> {
     pub(crate) fn wrap(&mut self, form: Wrapping, standing: Standing) -> Result<(), AllocError>
         ensures { IfOk result (λ done. self.new ≡ v.Part (shapes.standing (one_more (around (shapes.wrapped form) (part_in (first self.old)).of)) standing) ∷ rest self.old) }
     {
-        let of = self.take_expression();
-        let Kept { tree, nesting } = counted_box(self.alloc(), of)?;
+        let Kept { tree, nesting } = self.take_counted_expression()?;
         let tree = match tree {
-            Some(of) => Some(wrapping(form, of)),
+            Some(of) => {
+                let form = match form {
+                    Wrapping::SuperIndex { at } => ExpressionForm::SuperIndex { at, key: of },
+                    Wrapping::BareNew => ExpressionForm::New {
+                        callee: of,
+                        arguments: None,
+                    },
+                    Wrapping::Update { at, up, prefix } => ExpressionForm::Update {
+                        at,
+                        up,
+                        prefix,
+                        target: of,
+                    },
+                    Wrapping::Before { operator, at } => match operator {
+                        Prefix::Unary(operator) => ExpressionForm::Unary { operator, of },
+                        Prefix::Typeof => ExpressionForm::Typeof(of),
+                        Prefix::Void => ExpressionForm::Void(of),
+                        Prefix::Delete => ExpressionForm::Delete { at, of },
+                    },
+                };
+                Some(Expression { form })
+            }
             None => None,
         };
         self.put_part(Kept { tree, nesting }, standing)

@@ -18,37 +18,6 @@ use crate::stack::Stack;
 use es_model::{BinaryOperator, Expression, ExpressionForm, Identifier, TreeList};
 use std::alloc::{AllocError, Global};
 
-fn joining(form: Joining, left: Box<Expression>, right: Box<Expression>) -> Expression
-    ensures { result ≡ shapes.joined form left.value right.value }
-{
-    let form = match form {
-        Joining::Index => ExpressionForm::Index {
-            of: left,
-            key: right,
-        },
-        Joining::Assign { at, operator } => ExpressionForm::Assign {
-            at,
-            target: left,
-            operator,
-            value: right,
-        },
-        Joining::Operation(operator) => match operator {
-            Infix::Binary(operator) => ExpressionForm::Binary {
-                operator,
-                left,
-                right,
-            },
-            Infix::In => ExpressionForm::In { left, right },
-            Infix::InstanceOf => ExpressionForm::InstanceOf { left, right },
-            Infix::And => ExpressionForm::And { left, right },
-            Infix::Or => ExpressionForm::Or { left, right },
-            Infix::Nullish => ExpressionForm::Nullish { left, right },
-            Infix::Comma => ExpressionForm::Comma { left, right },
-        },
-    };
-    Expression { form }
-}
-
 fn joined(
     alloc: Global,
     form: Joining,
@@ -61,7 +30,32 @@ fn joined(
     let tree = match tree {
         Some((left, right)) => {
             let (left, right) = two_boxes(alloc, left, right)?;
-            Some(joining(form, left, right))
+            let form = match form {
+                Joining::Index => ExpressionForm::Index {
+                    of: left,
+                    key: right,
+                },
+                Joining::Assign { at, operator } => ExpressionForm::Assign {
+                    at,
+                    target: left,
+                    operator,
+                    value: right,
+                },
+                Joining::Operation(operator) => match operator {
+                    Infix::Binary(operator) => ExpressionForm::Binary {
+                        operator,
+                        left,
+                        right,
+                    },
+                    Infix::In => ExpressionForm::In { left, right },
+                    Infix::InstanceOf => ExpressionForm::InstanceOf { left, right },
+                    Infix::And => ExpressionForm::And { left, right },
+                    Infix::Or => ExpressionForm::Or { left, right },
+                    Infix::Nullish => ExpressionForm::Nullish { left, right },
+                    Infix::Comma => ExpressionForm::Comma { left, right },
+                },
+            };
+            Some(Expression { form })
         }
         None => None,
     };
@@ -219,9 +213,17 @@ impl Stack<Piece> {
         ensures { IfOk result (λ done. self.new ≡ v.Part (p.operation infixes.Comma (part_in (second self.old)) (part_in (first self.old))) ∷ rest (rest self.old)) }
     {
         let alloc = self.alloc();
-        let (right, last) = self.take_part().into_pair();
+        let Part {
+            of: right,
+            heading: last,
+            ..
+        } = self.take_part();
         let at = self.at();
-        let (left, first) = self.take_part().into_pair();
+        let Part {
+            of: left,
+            heading: first,
+            ..
+        } = self.take_part();
         match joined(alloc, Joining::Operation(Infix::Comma), left, right) {
             Ok(of) => self.put_comma(at, of, first, last),
             Err(error) => {

@@ -1,6 +1,3 @@
-ghost use Rattle.std.specs.Prelude.{◌≡◌};
-
-use crate::keeping::lose;
 use crate::trees::KeyTree;
 use es_model::{Expression, Identifier, TreeList};
 use js_value::Units;
@@ -54,41 +51,4 @@ pub enum Literal {
     False,
     Number(i64),
     String(Units),
-}
-
-impl Part {
-    /// What is kept of the expression, without what else is known of it.
-    pub fn into_kept(self) -> Kept<Expression>
-        ensures { result ≡ self.of }
-    {
-        let (of, heading) = self.into_pair();
-        lose(heading);
-        of
-    }
-
-    /// What the expression is as the head of an arrow.
-    pub fn into_heading(self) -> Heading
-        ensures { result ≡ self.heading }
-    {
-        let (of, heading) = self.into_pair();
-        lose(of);
-        heading
-    }
-
-    /// What is kept of the expression, and what it is as the head of an arrow.
-    pub fn into_pair(self) -> (Kept<Expression>, Heading)
-        ensures { (result.0 ≡ self.of) × (result.1 ≡ self.heading) }
-    {
-        let Part {
-            of,
-            at: _,
-            level: _,
-            is_target: _,
-            is_nullish: _,
-            is_bare_new: _,
-            has_call: _,
-            heading,
-        } = self;
-        (of, heading)
-    }
 }

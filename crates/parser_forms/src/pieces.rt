@@ -178,7 +178,7 @@ impl Stack<Piece> {
     pub fn take_head(&mut self) -> Result<bool, AllocError>
         ensures { IfOk result (λ found. Finds found (asks.head_of (part_in (first self.old)).heading) self.old self.new) }
     {
-        match self.take_part().into_heading() {
+        match self.take_heading() {
             Heading::Name(one) => self.put_found(one),
             Heading::Head(names) => {
                 self.put_names(names)?;
@@ -196,7 +196,7 @@ impl Stack<Piece> {
     pub fn take_list(&mut self) -> Result<bool, AllocError>
         ensures { IfOk result (λ found. Finds found (asks.list_of (part_in (first self.old)).heading) self.old self.new) }
     {
-        match self.take_part().into_heading() {
+        match self.take_heading() {
             Heading::Name(one) => self.put_found(one),
             Heading::Names(names) => {
                 self.put_names(names)?;
@@ -207,6 +207,15 @@ impl Stack<Piece> {
                 Ok(false)
             }
         }
+    }
+
+    // What the last expression is as the head of an arrow; the expression is dropped.
+    fn take_heading(&mut self) -> Heading
+        ensures { (result ≡ (part_in (first self.old)).heading) × (self.new ≡ rest self.old) }
+    {
+        let Part { of, heading, .. } = self.take_part();
+        lose(of);
+        heading
     }
 
     // A name that was found, as the list of it alone.

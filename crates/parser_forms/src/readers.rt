@@ -4,10 +4,10 @@
 ghost use Rattle.std.specs.Prelude.{◌≡◌, IfOk};
 ghost use Rattle.es_model.specs.View.{optional as optional_view};
 ghost use Rattle.es_model.specs.Tree.{present};
-ghost use Rattle.parser_forms.specs.Kept.{around, optional};
-ghost use Rattle.parser_forms.specs.Pieces.{cases_in, declarators_in, expressions_in, first, given_expression, given_name, given_statements, head_in, items_in, key_in, members_in, name_in, names_in, pairs_in, part_in, rest, statement_in, statements_in, text_in, texts_in};
+ghost use Rattle.parser_forms.specs.Kept.{around, counted as one_more, optional, unboxed};
+ghost use Rattle.parser_forms.specs.Pieces.{cases_in, declarators_in, expressions_in, first, given_expression, given_name, given_statements, head_in, items_in, key_in, members_in, name_in, names_in, pairs_in, parent_in, part_in, rest, statement_in, statements_in, text_in, texts_in, under_parent};
 
-use crate::keeping::{flat, lose_piece, option_beside};
+use crate::keeping::{box_of_option, counted_box, flat, lose, lose_piece, option_beside};
 use crate::parts::{Heading, Kept, KeyPart, Part};
 use crate::pieces::Piece;
 use crate::stack::Stack;
@@ -26,21 +26,6 @@ pub(crate) fn given_expression(of: Kept<Expression>) -> Kept<OptionalExpression>
     let Kept { tree, nesting } = of;
     let tree = match tree {
         Some(tree) => Some(OptionalExpression { tree: Some(tree) }),
-        None => None,
-    };
-    Kept { tree, nesting }
-}
-
-/// Statements that are there, where they may be left out.
-pub(crate) fn given_statements(of: Kept<Statements>) -> Kept<OptionalStatements>
-    ensures { result ≡ around present of }
-{
-    let Kept { tree, nesting } = of;
-    let tree = match tree {
-        Some(list) => {
-            let trees = Some(list.trees);
-            Some(OptionalStatements { trees })
-        }
         None => None,
     };
     Kept { tree, nesting }
@@ -88,7 +73,10 @@ impl Stack<Piece> {
         ensures { (result ≡ (part_in (first self.old)).of) × (self.new ≡ rest self.old) }
     {
         match self.take() {
-            Piece::Part(part) => part.into_kept(),
+            Piece::Part(Part { of, heading, .. }) => {
+                lose(heading);
+                of
+            }
             other => {
                 lose_piece(other);
                 Kept {
@@ -97,6 +85,23 @@ impl Stack<Piece> {
                 }
             }
         }
+    }
+
+    /// The expression that was read last, in a box.
+    pub(crate) fn take_boxed_expression(&mut self) -> Result<Kept<Box<Expression>>, AllocError>
+        ensures { IfOk result (λ made. (unboxed made ≡ (part_in (first self.old)).of) × (self.new ≡ rest self.old)) }
+    {
+        let Kept { tree, nesting } = self.take_expression();
+        let tree = box_of_option(self.alloc(), tree)?;
+        Ok(Kept { tree, nesting })
+    }
+
+    /// The expression that was read last, as one level of nesting more, in a box.
+    pub(crate) fn take_counted_expression(&mut self) -> Result<Kept<Box<Expression>>, AllocError>
+        ensures { IfOk result (λ made. (unboxed made ≡ one_more (part_in (first self.old)).of) × (self.new ≡ rest self.old)) }
+    {
+        let of = self.take_expression();
+        counted_box(self.alloc(), of)
     }
 
     /// The expressions that were read last.
@@ -332,12 +337,26 @@ impl Stack<Piece> {
         }
     }
 
+    /// The expression that was read last, where there is one.
+    pub(crate) fn take_expression_if(&mut self, there: bool) -> Kept<OptionalExpression>
+        ensures { (result ≡ optional (parent_in there self.old)) × (self.new ≡ under_parent there self.old) }
+    {
+        if there {
+            given_expression(self.take_expression())
+        } else {
+            flat(OptionalExpression { tree: None })
+        }
+    }
+
     /// The expression that was read last, which may be left out.
     pub(crate) fn take_given_expression(&mut self) -> Kept<OptionalExpression>
         ensures { (result ≡ optional (given_expression (first self.old))) × (self.new ≡ rest self.old) }
     {
         match self.take() {
-            Piece::Part(part) => given_expression(part.into_kept()),
+            Piece::Part(Part { of, heading, .. }) => {
+                lose(heading);
+                given_expression(of)
+            }
             other => {
                 lose_piece(other);
                 flat(OptionalExpression { tree: None })
@@ -350,7 +369,16 @@ impl Stack<Piece> {
         ensures { (result ≡ optional (given_statements (first self.old))) × (self.new ≡ rest self.old) }
     {
         match self.take() {
-            Piece::Statements(list) => given_statements(list),
+            Piece::Statements(Kept { tree, nesting }) => {
+                let tree = match tree {
+                    Some(list) => {
+                        let trees = Some(list.trees);
+                        Some(OptionalStatements { trees })
+                    }
+                    None => None,
+                };
+                Kept { tree, nesting }
+            }
             other => {
                 lose_piece(other);
                 flat(OptionalStatements { trees: None })

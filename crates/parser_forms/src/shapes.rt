@@ -4,6 +4,7 @@ ghost use Rattle.std.specs.Prelude.{◌≡◌, false, true};
 
 use crate::kinds::{Infix, Prefix};
 use es_model::{BinaryOperator, Semi};
+use js_value::Units;
 
 /// What is known of an expression but for its tree, where it is no head of an arrow.
 #[derive(Clone, Copy)]
@@ -105,4 +106,19 @@ pub enum Valued {
 pub enum Bodied {
     While,
     If,
+}
+
+/// Items that are a statement.
+#[derive(Clone, Copy)]
+pub enum Stated {
+    Plain,
+    Exported,
+}
+
+/// Items with pairs of names; two of them name another module.
+#[derive(Drop)]
+pub enum Paired {
+    Import(Units),
+    ExportFrom(Units),
+    ExportNames,
 }

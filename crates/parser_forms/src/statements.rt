@@ -8,47 +8,16 @@ ghost use Rattle.parser_forms.specs.Parts as p;
 ghost use Rattle.parser_forms.specs.Pieces.{declarators_in, first, fourth, given_expression, given_name, given_statements, head_in, name_in, part_in, rest, second, statement_in, statements_in, third};
 ghost use Rattle.parser_forms.specs.declared.pieces.Piece.TheVariants as v;
 
-use crate::keeping::{
-    both, box_beside, counted, counted_box, flat, lose, push, three_boxes, two_boxes,
-};
+use crate::keeping::{both, box_beside, counted, lose, push, three_boxes, two_boxes};
 use crate::kinds::Bare;
 use crate::parts::Kept;
 use crate::pieces::Piece;
-use crate::readers::{boxed_beside, given_statements};
+use crate::readers::boxed_beside;
 use crate::shapes::{Bodied, Empty, Valued};
 use crate::stack::Stack;
-use crate::trees::{HeadTree, OptionalExpression, OptionalStatements, Statements};
-use es_model::{Expression, Identifier, Semi, Statement, StatementForm};
+use crate::trees::{HeadTree, OptionalExpression, Statements};
+use es_model::{Semi, Statement, StatementForm};
 use std::alloc::{AllocError, Global};
-
-fn valued(form: Valued, value: Box<Expression>) -> Statement
-    ensures { result ≡ shapes.valued form value.value }
-{
-    let form = match form {
-        Valued::Value { semi } => StatementForm::Value { value, semi },
-        Valued::Return { at, semi } => StatementForm::Return {
-            at,
-            value: Some(value),
-            semi,
-        },
-        Valued::Throw { semi } => StatementForm::Throw { value, semi },
-    };
-    Statement { form }
-}
-
-fn bodied(form: Bodied, test: Box<Expression>, body: Box<Statement>) -> Statement
-    ensures { result ≡ shapes.bodied form test.value body.value }
-{
-    let form = match form {
-        Bodied::While => StatementForm::While { test, body },
-        Bodied::If => StatementForm::If {
-            test,
-            yes: body,
-            other: None,
-        },
-    };
-    Statement { form }
-}
 
 fn for_tree(
     alloc: Global,
@@ -253,32 +222,37 @@ impl Stack<Piece> {
     pub fn guarded(&mut self) -> Result<(), AllocError>
         ensures { IfOk result (λ done. self.new ≡ v.Statement (p.guarded (statements_in (third self.old)) (given_name (second self.old)) (Some (statements_in (first self.old))) None) ∷ rest (rest (rest self.old))) }
     {
-        let catch = given_statements(self.take_statements());
-        let caught = self.take_given_name();
-        let tried = self.take_statements();
-        let finally = flat(OptionalStatements { trees: None });
-        self.put_guarded(tried, caught, catch, finally)
+        self.given_statements()?;
+        self.nothing()?;
+        self.put_guarded()
     }
 
     /// `try` with `finally`, and perhaps with `catch`.
     pub fn guarded_finally(&mut self) -> Result<(), AllocError>
         ensures { IfOk result (λ done. self.new ≡ v.Statement (p.guarded (statements_in (fourth self.old)) (given_name (third self.old)) (given_statements (second self.old)) (Some (statements_in (first self.old)))) ∷ rest (rest (rest (rest self.old)))) }
     {
-        let finally = given_statements(self.take_statements());
-        let catch = self.take_given_statements();
-        let caught = self.take_given_name();
-        let tried = self.take_statements();
-        self.put_guarded(tried, caught, catch, finally)
+        self.given_statements()?;
+        self.put_guarded()
     }
 
     // A statement round the expression before.
     fn put_valued(&mut self, form: Valued) -> Result<(), AllocError>
         ensures { IfOk result (λ done. self.new ≡ v.Statement (one_more (around (shapes.valued form) (part_in (first self.old)).of)) ∷ rest self.old) }
     {
-        let of = self.take_expression();
-        let Kept { tree, nesting } = counted_box(self.alloc(), of)?;
+        let Kept { tree, nesting } = self.take_counted_expression()?;
         let tree = match tree {
-            Some(value) => Some(valued(form, value)),
+            Some(value) => {
+                let form = match form {
+                    Valued::Value { semi } => StatementForm::Value { value, semi },
+                    Valued::Return { at, semi } => StatementForm::Return {
+                        at,
+                        value: Some(value),
+                        semi,
+                    },
+                    Valued::Throw { semi } => StatementForm::Throw { value, semi },
+                };
+                Some(Statement { form })
+            }
             None => None,
         };
         self.push(Piece::Statement(Kept { tree, nesting }))
@@ -293,23 +267,30 @@ impl Stack<Piece> {
         let tree = match tree {
             Some((test, body)) => {
                 let (test, body) = two_boxes(self.alloc(), test, body)?;
-                Some(bodied(form, test, body))
+                let form = match form {
+                    Bodied::While => StatementForm::While { test, body },
+                    Bodied::If => StatementForm::If {
+                        test,
+                        yes: body,
+                        other: None,
+                    },
+                };
+                Some(Statement { form })
             }
             None => None,
         };
         self.push(Piece::Statement(Kept { tree, nesting }))
     }
 
-    fn put_guarded(
-        &mut self,
-        tried: Kept<Statements>,
-        caught: Option<Identifier>,
-        catch: Kept<OptionalStatements>,
-        finally: Kept<OptionalStatements>,
-    ) -> Result<(), AllocError>
-        ensures { IfOk result (λ done. self.new ≡ v.Statement (one_more (side_by_side (λ make tree. make tree) (side_by_side (λ one two. t.Try one caught two) tried catch) finally)) ∷ self.old) }
+    // `try` with what follows its block, of which each may be left out.
+    fn put_guarded(&mut self) -> Result<(), AllocError>
+        ensures { IfOk result (λ done. self.new ≡ v.Statement (p.guarded (statements_in (fourth self.old)) (given_name (third self.old)) (given_statements (second self.old)) (given_statements (first self.old))) ∷ rest (rest (rest (rest self.old)))) }
     {
-        let Kept { tree, nesting } = counted(both(both(tried, catch), finally));
+        let finally = self.take_given_statements();
+        let catch = self.take_given_statements();
+        let caught = self.take_given_name();
+        let block = both(self.take_statements(), catch);
+        let Kept { tree, nesting } = counted(both(block, finally));
         let tree = match tree {
             Some(((block, catch), finally)) => {
                 let form = StatementForm::Try {
