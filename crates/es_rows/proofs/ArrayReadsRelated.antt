@@ -27,8 +27,8 @@ spread_related : {R : Naming} (m n o p size to : ℕ) (k l : ℕ → Act) → R 
 spread_related m n o p size to k l r q i j h =
     each_with_related Leaves greatest (λ at x next. if_present o at (λ v. create_index m x v (λ _. next (suc x))) (λ _. next (suc x))) (λ at x next. if_present p at (λ v. create_index n x v (λ _. next (suc x))) (λ _. next (suc x))) k l
     (λ count at x y f g b c u. let bound = c.1 in rw c.0 (if_present_related o p at _ _ (λ _. f (suc y)) (λ _. g (suc y)) q
-        (λ v w d. create_index_related m n y v w (λ _. f (suc y)) (λ _. g (suc y)) r (omega (arith, bound)) d (λ _. u (suc y) (suc y) (refl, omega (arith, bound))))
-        (λ _. u (suc y) (suc y) (refl, omega (arith, bound)))))
+    (λ v w d. create_index_related m n y v w (λ _. f (suc y)) (λ _. g (suc y)) r (omega (arith, bound)) d (λ _. u (suc y) (suc y) (refl, omega (arith, bound))))
+    (λ _. u (suc y) (suc y) (refl, omega (arith, bound)))))
     (λ x y e. let bound = e.1 in h x y (e.0, omega (arith, bound))) size 0 to to (omega (arith, i)) (refl, j)
 
 concat_item_related : {R : Naming} (m n to : ℕ) (v w : Value) (is_array : Bool) (k l : ℕ → Act) → R m n → BothValue R v w → Then R InRange k l → Related R (concat_item m v is_array k to) (concat_item n w is_array l to)

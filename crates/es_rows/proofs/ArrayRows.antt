@@ -311,11 +311,11 @@ spliced_out = refl
 
 spliced : map (λ vs. after 90 (Object 13) vs 13) splices
     ≡ (3, (0, number 1) ∷ (1, text (codes "x")) ∷ (2, number 0) ∷ []) ∷
-      (6, (0, number 1) ∷ (1, text (codes "x")) ∷ (2, text (codes "y")) ∷ (3, text (codes "b")) ∷ (5, number 0) ∷ []) ∷
-      (4, (0, number 1) ∷ (1, text (codes "x")) ∷ (3, number 0) ∷ []) ∷
-      (4, (0, number 1) ∷ (1, text (codes "b")) ∷ (3, number 0) ∷ []) ∷
-      (1, (0, number 1) ∷ []) ∷
-      (4, (0, number 1) ∷ (1, text (codes "b")) ∷ (3, number 0) ∷ []) ∷ []
+    (6, (0, number 1) ∷ (1, text (codes "x")) ∷ (2, text (codes "y")) ∷ (3, text (codes "b")) ∷ (5, number 0) ∷ []) ∷
+    (4, (0, number 1) ∷ (1, text (codes "x")) ∷ (3, number 0) ∷ []) ∷
+    (4, (0, number 1) ∷ (1, text (codes "b")) ∷ (3, number 0) ∷ []) ∷
+    (1, (0, number 1) ∷ []) ∷
+    (4, (0, number 1) ∷ (1, text (codes "b")) ∷ (3, number 0) ∷ []) ∷ []
 unfolding arrays_computing splices
 spliced = refl
 
