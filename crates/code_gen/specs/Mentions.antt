@@ -131,6 +131,9 @@ abbrev by_binding : {A : Type 0} → (Binds → Place → A) → Frame → Optio
 by_binding k f (Some binding) name = k (binds_of f.declarations binding) (place_in f binding)
 by_binding k f None name = k Variable (global_place (place_from 0 global_names name))
 
+abbrev pub at_name : (Binds → Place → Coding) → Frame → Setting → Identifier → Coding
+at_name k f g name = by_binding k f (find_binding name.name g.sees) name.name
+
 abbrev pub read_name : Frame → Setting → Text → Coding
 read_name f g name = by_binding read f (find_binding name g.sees) name
 
