@@ -214,8 +214,8 @@ assigned x g target (Some operator) value = change x g target (λ beneath. value
 
 -- `++` and `--`: the operand's number and one more or less. A postfix form keeps the number beneath.
 abbrev one_on : Bool → Coding
-one_on true = op (i.Int 1) ▸ op (i.Binary 0)
-one_on false = op (i.Int 1) ▸ op (i.Binary 1)
+one_on true = op (i.Int (pos 1)) ▸ op (i.Binary 0)
+one_on false = op (i.Int (pos 1)) ▸ op (i.Binary 1)
 
 abbrev pub updated : Frame → Setting → (up prefix : Bool) → Target → Coding
 updated x g up true target = change x g target (λ beneath. op (i.Unary 2) ▸ one_on up)

@@ -53,11 +53,11 @@ requests (t.more item items) = request item ++ requests items
 
 -- an imported binding: the module that is asked, and the name that it is asked for
 pub record Import : Type 0 where
-  pub module : Text
+  pub source : Text
   pub name : Text
 
 abbrev import_of : Text → Pair → Import
-import_of source pair = record { module = source; name = pair.taken.name }
+import_of source pair = record { source = source; name = pair.taken.name }
 
 abbrev imports_of : Tree t.item → List Import
 imports_of (t.Import source pairs semi) = map (import_of source) pairs
@@ -71,7 +71,7 @@ imports (t.more item items) = imports_of item ++ imports items
 -- another module exports.
 pub data Export : Type 0 where
   Own : (name : Text) → (at : ℕ) → Export
-  Other : (name module asked : Text) → Export
+  Other : (name source asked : Text) → Export
 
 abbrev top_number : List Binding → Text → ℕ
 top_number tops name = number_of (find_binding name tops)
@@ -99,7 +99,7 @@ import_named name (t.more _ items) = import_named name items
 -- an exported import is what its module exports
 abbrev export_by : List Binding → Pair → Option Import → Export
 export_by tops pair None = Own pair.given.name (top_number tops pair.taken.name)
-export_by tops pair (Some one) = Other pair.given.name one.module one.name
+export_by tops pair (Some one) = Other pair.given.name one.source one.name
 
 abbrev named_export : Tree (t.list t.item) → List Binding → Pair → Export
 named_export items tops pair = export_by tops pair (import_named pair.taken.name items)
@@ -182,11 +182,11 @@ abbrev names_of_function : Function → List Text
 names_of_function one = one.name ∷ texts_of one.steps
 
 abbrev names_of_import : Import → List Text
-names_of_import one = one.module ∷ one.name ∷ []
+names_of_import one = one.source ∷ one.name ∷ []
 
 abbrev names_of_export : Export → List Text
 names_of_export (Own name at) = name ∷ []
-names_of_export (Other name module asked) = name ∷ module ∷ asked ∷ []
+names_of_export (Other name source asked) = name ∷ source ∷ asked ∷ []
 
 abbrev mentioned_names : Tree (t.list t.item) → Text → List Function → List Text
 mentioned_names items name functions =
@@ -221,11 +221,11 @@ module _ (numbering : Text → ℕ) where
   }
 
   abbrev code_import : Import → CodeImport
-  code_import one = record { module = numbering one.module; name = numbering one.name }
+  code_import one = record { «module» = numbering one.source; name = numbering one.name }
 
   abbrev code_export : Export → CodeExport
   code_export (Own name at) = Local (numbering name) at
-  code_export (Other name module asked) = From (numbering name) (numbering module) (numbering asked)
+  code_export (Other name source asked) = From (numbering name) (numbering source) (numbering asked)
 
   abbrev code_hoist : List Binding → List FunctionForm → Hoisted → CodeHoist
   code_hoist tops forms one = record { at = top_number tops one.name; function = function_number (place_of_function one.function) forms }

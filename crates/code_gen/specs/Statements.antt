@@ -218,7 +218,7 @@ finally_code x outer block catch finally =
       let done = into_finally kind 0 last in
       caught_by start end done (catch around) (λ catch_part catch_handler.
         guarded
-          (mark start ▸ block around ▸ mark end ▸ done ▸ catch_part ▸ mark thrown ▸ op (i.LocalPut held) ▸ op (i.Int 1) ▸ op (i.LocalPut kind) ▸ mark last)
+          (mark start ▸ block around ▸ mark end ▸ done ▸ catch_part ▸ mark thrown ▸ op (i.LocalPut held) ▸ op (i.Int (pos 1)) ▸ op (i.LocalPut kind) ▸ mark last)
           (λ exits. finally ▸ dispatch kind held outer exits ▸ catch_handler ▸ handler start thrown thrown))))))))
 
 abbrev pub try_code : Frame → List Around → (List Around → Coding) → (List Around → Option Coding) → Option Coding → Coding
