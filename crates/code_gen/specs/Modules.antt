@@ -188,7 +188,7 @@ abbrev names_of_export : Export → List Text
 names_of_export (Own name at) = name ∷ []
 names_of_export (Other name source asked) = name ∷ source ∷ asked ∷ []
 
-abbrev mentioned_names : Tree (t.list t.item) → Text → List Function → List Text
+abbrev pub mentioned_names : Tree (t.list t.item) → Text → List Function → List Text
 mentioned_names items name functions =
     name ∷ (flat_map names_of_function functions ++ (requests items ++ (flat_map names_of_import (imports items) ++ flat_map names_of_export (exports items))))
 
@@ -247,7 +247,7 @@ abbrev pub code_of : Tree (t.list t.item) → Text → (numbering : Text → ℕ
 code_of items name numbering = module_record numbering items name (all_functions items name (functions items)) (functions items)
 
 -- the code with the module's own numbering, each function coded once
-abbrev own_code : Tree (t.list t.item) → Text → List Function → ModuleCode
+abbrev pub own_code : Tree (t.list t.item) → Text → List Function → ModuleCode
 own_code items name all = module_record (number_among (distinct (mentioned_names items name all))) items name all (functions items)
 
 abbrev pub compiled : Tree (t.list t.item) → Text → ModuleCode
