@@ -1,4 +1,5 @@
 pub mod Rows
+pub mod Laws
 mod ModuleRows
 mod ExpressionRows
 mod ClassRows
