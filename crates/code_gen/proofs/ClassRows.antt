@@ -1,10 +1,9 @@
 -- Worked rows of the code of functions and classes, worked out by hand from the code table.
-use Rattle.std.specs.Prelude.{◌≡◌, true, false, [], ◌∷◌, codes, pos, negsuc, Some, None, refl}
+use Rattle.std.specs.Prelude.{◌≡◌, true, false, [], ◌∷◌, codes, pos, Some, None, refl}
 use Rattle.byte_code.specs.declared.instruction.Op.TheVariants as i
 use Rattle.es_model.specs.declared.kinds.Semi.TheVariants as semi
 use Rattle.es_model.specs.declared.kinds.FunctionKind.TheVariants as f
 use Rattle.es_model.specs.declared.kinds.MemberKind.TheVariants as m
-use Rattle.es_model.specs.declared.kinds.UnaryOperator.TheVariants as u
 use Rattle.es_model.specs.declared.kinds.BinaryOperator.TheVariants as b
 use Rattle.es_model.specs.Tree as t
 use Rattle.es_model.specs.Scopes.{gather}
@@ -12,7 +11,7 @@ use Rattle.es_model.specs.Functions.{functions, writes_constructor}
 use Rattle.es_model.specs.FreeNames.{mentions, free, captured, places, captures}
 use Rattle.code_gen.specs.Expressions.{code}
 use Rattle.code_gen.specs.Statements.{statement}
-use Rattle.code_gen.proofs.Rows.{named_at, pair_of, coded, range}
+use Rattle.code_gen.proofs.Rows.{named_at, coded}
 
 -- class A extends Object { go(k) { super.x; super[k]; super.x = 1; super[k] = 2; super.x += 3; super[k] += 4; super.x++; super[k]++; --super.x; super.go(5); super[k](6); } }
 super_members : coded (t.more (t.Plain (t.ClassStatement (t.ClassOf 0 (Some (named_at 6 (codes "A"))) (t.present (t.Name (named_at 16 (codes "Object")))) (t.more (t.MemberOf 25 false m.Method (t.KeyWord (codes "go")) t.absent (t.present (t.FunctionOf 25 None f.Method ((named_at 28 (codes "k")) ∷ []) (t.BodyStatements (t.more (t.Value (t.SuperDot 33 (codes "x")) semi.Written) (t.more (t.Value (t.SuperIndex 42 (t.Name (named_at 48 (codes "k")))) semi.Written) (t.more (t.Value (t.Assign 52 (t.SuperDot 52 (codes "x")) None (t.Number (pos 1))) semi.Written) (t.more (t.Value (t.Assign 65 (t.SuperIndex 65 (t.Name (named_at 71 (codes "k")))) None (t.Number (pos 2))) semi.Written) (t.more (t.Value (t.Assign 79 (t.SuperDot 79 (codes "x")) (Some b.Add) (t.Number (pos 3))) semi.Written) (t.more (t.Value (t.Assign 93 (t.SuperIndex 93 (t.Name (named_at 99 (codes "k")))) (Some b.Add) (t.Number (pos 4))) semi.Written) (t.more (t.Value (t.Update 108 true false (t.SuperDot 108 (codes "x"))) semi.Written) (t.more (t.Value (t.Update 119 true false (t.SuperIndex 119 (t.Name (named_at 125 (codes "k"))))) semi.Written) (t.more (t.Value (t.Update 131 false true (t.SuperDot 133 (codes "x"))) semi.Written) (t.more (t.Value (t.Call (t.SuperDot 142 (codes "go")) (t.more (t.Number (pos 5)) t.none)) semi.Written) (t.more (t.Value (t.Call (t.SuperIndex 155 (t.Name (named_at 161 (codes "k")))) (t.more (t.Number (pos 6)) t.none)) semi.Written) t.none))))))))))))))) t.none)))) t.none) 2 ≡ Some (record {

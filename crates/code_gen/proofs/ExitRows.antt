@@ -1,18 +1,15 @@
 -- Worked rows of the code of `try`, worked out by hand from the code table.
-use Rattle.std.specs.Prelude.{◌≡◌, true, false, [], ◌∷◌, codes, pos, negsuc, Some, None, refl}
+use Rattle.std.specs.Prelude.{◌≡◌, false, [], ◌∷◌, codes, pos, Some, None, refl}
 use Rattle.byte_code.specs.declared.instruction.Op.TheVariants as i
 use Rattle.es_model.specs.declared.kinds.Semi.TheVariants as semi
 use Rattle.es_model.specs.declared.kinds.FunctionKind.TheVariants as f
-use Rattle.es_model.specs.declared.kinds.MemberKind.TheVariants as m
-use Rattle.es_model.specs.declared.kinds.UnaryOperator.TheVariants as u
-use Rattle.es_model.specs.declared.kinds.BinaryOperator.TheVariants as b
 use Rattle.es_model.specs.Tree as t
 use Rattle.es_model.specs.Scopes.{gather}
 use Rattle.es_model.specs.Functions.{functions, writes_constructor}
 use Rattle.es_model.specs.FreeNames.{mentions, free, captured, places, captures}
 use Rattle.code_gen.specs.Expressions.{code}
 use Rattle.code_gen.specs.Statements.{statement}
-use Rattle.code_gen.proofs.Rows.{named_at, pair_of, coded, range}
+use Rattle.code_gen.proofs.Rows.{named_at, coded, range}
 
 -- function f(a) { try { a; } catch (e) { e; } }
 catches : coded (t.more (t.Plain (t.FunctionStatement (t.FunctionOf 0 (Some (named_at 9 (codes "f"))) f.Plain ((named_at 11 (codes "a")) ∷ []) (t.BodyStatements (t.more (t.Try (t.more (t.Value (t.Name (named_at 22 (codes "a"))) semi.Written) t.none) (Some (named_at 34 (codes "e"))) (t.present (t.more (t.Value (t.Name (named_at 39 (codes "e"))) semi.Written) t.none)) t.absent) t.none))))) t.none) 1 ≡ Some (record {

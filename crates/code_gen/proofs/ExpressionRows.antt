@@ -1,5 +1,5 @@
 -- Worked rows of the code of expressions, worked out by hand from the code table.
-use Rattle.std.specs.Prelude.{◌≡◌, true, false, [], ◌∷◌, codes, pos, negsuc, Some, None, refl}
+use Rattle.std.specs.Prelude.{◌≡◌, true, false, [], ◌∷◌, codes, pos, Some, None, refl}
 use Rattle.byte_code.specs.declared.instruction.Op.TheVariants as i
 use Rattle.es_model.specs.declared.kinds.Semi.TheVariants as semi
 use Rattle.es_model.specs.declared.kinds.FunctionKind.TheVariants as f
@@ -12,7 +12,7 @@ use Rattle.es_model.specs.Functions.{functions, writes_constructor}
 use Rattle.es_model.specs.FreeNames.{mentions, free, captured, places, captures}
 use Rattle.code_gen.specs.Expressions.{code}
 use Rattle.code_gen.specs.Statements.{statement}
-use Rattle.code_gen.proofs.Rows.{named_at, pair_of, coded, range}
+use Rattle.code_gen.proofs.Rows.{named_at, pair_of, coded}
 
 -- null; true; false; this; 127; 128; 2147483647; 2147483648; "ab";
 literals : coded (t.more (t.Plain (t.Value t.Null semi.Written)) (t.more (t.Plain (t.Value t.True semi.Written)) (t.more (t.Plain (t.Value t.False semi.Written)) (t.more (t.Plain (t.Value t.This semi.Written)) (t.more (t.Plain (t.Value (t.Number (pos 127)) semi.Written)) (t.more (t.Plain (t.Value (t.Number (pos 128)) semi.Written)) (t.more (t.Plain (t.Value (t.Number (pos 2147483647)) semi.Written)) (t.more (t.Plain (t.Value (t.Number (pos 2147483648)) semi.Written)) (t.more (t.Plain (t.Value (t.String (codes "ab")) semi.Written)) t.none))))))))) 0 ≡ Some (record {

@@ -5,3 +5,4 @@ mod ExpressionRows
 mod ClassRows
 mod StatementRows
 mod ExitRows
+mod FaultRows

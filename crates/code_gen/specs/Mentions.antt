@@ -1,5 +1,5 @@
 -- The code of a mention: how a name is read, written and initialised where it is held.
-use Rattle.std.specs.Prelude.{ℕ, zero, suc, Bool, true, false, not, ◌&&◌, ◌||◌, ◌==◌, List, [], ◌∷◌, ◌++◌, map, length, Option, Some, None}
+use Rattle.std.specs.Prelude.{ℕ, zero, suc, Bool, true, false, not, ◌&&◌, ◌||◌, ◌==◌, List, [], ◌∷◌, map, length, Option, Some, None}
 use Rattle.std.specs.List.{list_any}
 use Rattle.byte_code.specs.declared.instruction.Op.TheVariants as i
 use Rattle.es_model.specs.declared.names.Identifier.{Identifier}
@@ -9,7 +9,7 @@ use Rattle.es_model.specs.Tokens.{place_from}
 use Rattle.es_model.specs.Tree as t
 use Rattle.es_model.specs.Tree.{Tree, Text}
 use Rattle.es_model.specs.Functions.{FunctionForm, functions}
-use Rattle.es_model.specs.Scopes.{Enclosing, Role, Binding, Setting, bind, class_name, find_binding, gather, top_setting}
+use Rattle.es_model.specs.Scopes.{Enclosing, Binding, Setting, class_name, find_binding, gather, top_setting}
 use Rattle.es_model.specs.FreeNames.{Mention, mentions, meant, same_binding, Held, HoldsBinding, HoldsTemporary, global_names, global_place, outer_list, places, index_of, place_of_binding, own_place, same_round, is_top, role_number, receiver, in_arrow}
 use Rattle.code_gen.specs.Steps.{Coding, none, op, ◌▸◌}
 

@@ -2,7 +2,7 @@
 -- `name` is the module's name and `numbering` gives each text its number. Names go by the module's own
 -- texts, in `names`, with `own_numbering items name`, which counts from 1. The fields `code` and
 -- `handlers` of a function are bytes.
-use Rattle.std.specs.Prelude.{ℕ, suc, Bool, true, false, not, ◌||◌, ◌==◌, List, [], ◌∷◌, ◌++◌, map, codes, Option, Some, None}
+use Rattle.std.specs.Prelude.{ℕ, suc, Bool, true, false, List, [], ◌∷◌, ◌++◌, map, codes, Option, Some, None}
 use Rattle.std.specs.List.{list_any, flat_map}
 use Rattle.byte_code.specs.declared.records.CodeCapture.{CodeCapture}
 use Rattle.byte_code.specs.declared.records.CodeImport.{CodeImport}
@@ -18,9 +18,8 @@ use Rattle.es_model.specs.Tokens.{same_text}
 use Rattle.es_model.specs.Tree as t
 use Rattle.es_model.specs.Tree.{Tree, Text}
 use Rattle.es_model.specs.Functions.{FunctionForm, functions}
-use Rattle.es_model.specs.Scopes.{Binding, Top, top_bindings, find_binding, declared_by, default_names}
-use Rattle.es_model.specs.FreeNames.{index_of, role_number}
-use Rattle.code_gen.specs.Steps.{Step}
+use Rattle.es_model.specs.Scopes.{Binding, top_bindings, find_binding, declared_by, default_names}
+use Rattle.es_model.specs.FreeNames.{index_of}
 use Rattle.code_gen.specs.Assembly.{code_bytes, handler_bytes, greatest_height, texts_of}
 use Rattle.code_gen.specs.Expressions.{function_number, place_of_function}
 use Rattle.code_gen.specs.Functions.{Function, all_functions}
