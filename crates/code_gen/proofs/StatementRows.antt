@@ -1,4 +1,4 @@
--- Worked rows of the code of statements, worked out by hand from the code table.
+-- Worked rows of the code of statements, worked out by hand.
 use Rattle.std.specs.Prelude.{◌≡◌, true, false, [], ◌∷◌, codes, pos, Some, None, refl}
 use Rattle.byte_code.specs.declared.instruction.Op.TheVariants as i
 use Rattle.es_model.specs.declared.kinds.Semi.TheVariants as semi
