@@ -97,7 +97,7 @@ is_anonymous (t.Class (t.ClassOf at None parent members)) = true
 is_anonymous (t.Paren of) = is_anonymous of
 is_anonymous _ = false
 
-abbrev is_anonymous_value : Tree (t.option t.expression) → Bool
+abbrev pub is_anonymous_value : Tree (t.option t.expression) → Bool
 is_anonymous_value t.absent = false
 is_anonymous_value (t.present value) = is_anonymous value
 
@@ -253,12 +253,12 @@ abbrev name_by : Key → ℕ → Coding
 name_by (Fixed text) prefix = none
 name_by (Computed value) prefix = op (i.NameIt prefix)
 
-abbrev prefix_of : MemberKind → ℕ
+abbrev pub prefix_of : MemberKind → ℕ
 prefix_of m.Getter = 1
 prefix_of m.Setter = 2
 prefix_of _ = 0
 
-abbrev define_mode : MemberKind → Bool → ℕ
+abbrev pub define_mode : MemberKind → Bool → ℕ
 define_mode m.Getter false = 2
 define_mode m.Setter false = 3
 define_mode m.Getter true = 4
@@ -309,17 +309,21 @@ abbrev set_own_name : Place → Coding
 set_own_name (Boxed p) = op i.Dup ▸ op (i.BoxInit p)
 set_own_name _ = none
 
+abbrev pub cells_of_own_names : Frame → Setting → List Identifier → Coding
+cells_of_own_names x g names = each cell_of_own_name (map (place_in x) (bind Own g.round names))
+
+abbrev pub set_own_names : Frame → Setting → List Identifier → Coding
+set_own_names x g names = each set_own_name (map (place_in x) (bind Own g.round names))
+
 abbrev pub with_own_name : Frame → Setting → List Identifier → Coding → Coding
-with_own_name x g names value =
-    let places = map (place_in x) (bind Own g.round names) in
-    each cell_of_own_name places ▸ value ▸ each set_own_name places
+with_own_name x g names value = cells_of_own_names x g names ▸ value ▸ set_own_names x g names
 
 abbrev pub class_of_parent : Option Expression → ℕ → Coding
 class_of_parent None number = op (i.Class number)
 class_of_parent (Some parent) number = parent.value ▸ op (i.ClassExtends number)
 
 -- the cell of a captured `this` gets the object that `super(..)` made
-abbrev set_this : Place → Coding
+abbrev pub set_this : Place → Coding
 set_this (Boxed p) = op i.Dup ▸ op (i.BoxInit p)
 set_this _ = none
 

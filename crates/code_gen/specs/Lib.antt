@@ -6,3 +6,4 @@ pub mod Assembly
 pub mod Functions
 pub mod Modules
 pub mod Faults
+pub mod Laid
