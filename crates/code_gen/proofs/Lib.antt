@@ -6,3 +6,4 @@ mod ClassRows
 mod StatementRows
 mod ExitRows
 mod FaultRows
+mod LaidRows

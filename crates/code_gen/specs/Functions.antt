@@ -6,6 +6,7 @@ use Rattle.es_model.specs.declared.kinds.FunctionKind.{FunctionKind}
 use Rattle.es_model.specs.declared.kinds.FunctionKind.TheVariants as f
 use Rattle.es_model.specs.declared.kinds.MemberKind.{MemberKind}
 use Rattle.es_model.specs.declared.kinds.MemberKind.TheVariants as m
+use Rattle.es_model.specs.declared.names.Identifier.{Identifier}
 use Rattle.es_model.specs.declared.place.Capture.{Capture}
 use Rattle.es_model.specs.declared.place.Place.{Place}
 use Rattle.es_model.specs.declared.place.Place.TheVariants.{Boxed}
@@ -134,11 +135,15 @@ abbrev body_code : Frame → Setting → Tree t.body → Coding
 body_code x g (t.BodyStatements list) = entry x g (declared list) (functions_of list) ▸ all (statement x [] g list) ▸ at_end
 body_code x g (t.BodyExpression value) = (code x g value).value ▸ op i.Return
 
+-- what comes before a function's body
+abbrev pub beginning : Frame → Setting → FunctionKind → List Identifier → Coding
+beginning x g kind parameters = each (at_name parameter x g) parameters ▸ this_cell x g kind
+
 abbrev pub function_code : Frame → Setting → Tree t.function → Coding
-function_code x g (t.FunctionOf at name kind parameters body) = each (at_name parameter x g) parameters ▸ this_cell x g kind ▸ body_code x g body
+function_code x g (t.FunctionOf at name kind parameters body) = beginning x g kind parameters ▸ body_code x g body
 
 abbrev pub module_code : Frame → Setting → Tree (t.list t.item) → Coding
-module_code x g items = this_cell x g f.Plain ▸ all (statement x [] g items) ▸ at_end
+module_code x g items = beginning x g f.Plain [] ▸ all (statement x [] g items) ▸ at_end
 
 abbrev pub steps_of : Coding → List Step
 steps_of c = (c (record { temporaries = 0; labels = 0; exits = [] })).steps

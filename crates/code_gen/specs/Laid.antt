@@ -6,20 +6,20 @@ use Rattle.std.specs.Prelude.{◌≡◌, ◌≤◌, ℕ, suc, ◌+◌, Bool, tru
 use Rattle.byte_code.specs.declared.instruction.Op.{Op}
 use Rattle.byte_code.specs.declared.instruction.Op.TheVariants as i
 use Rattle.js_value.specs.NumberText.{text_of_number}
+use Rattle.es_model.specs.declared.kinds.FunctionKind.TheVariants as f
 use Rattle.es_model.specs.declared.kinds.MemberKind.{MemberKind}
 use Rattle.es_model.specs.declared.kinds.MemberKind.TheVariants as m
 use Rattle.es_model.specs.declared.kinds.BinaryOperator.{BinaryOperator}
-use Rattle.es_model.specs.declared.names.Identifier.{Identifier}
 use Rattle.es_model.specs.Tree as t
 use Rattle.es_model.specs.Tree.{Tree, Text}
 use Rattle.es_model.specs.Functions.{is_constructor}
-use Rattle.es_model.specs.Scopes.{Setting, Own, bind, named as names_of, function_name, class_name, own_name, declared, declared_in_cases, declared_by_head, declared_in, declared_by_catch, default_names, within, Inner, in_body_of_loop, in_cases}
+use Rattle.es_model.specs.Scopes.{Setting, named as names_of, function_name, class_name, own_name, declared, declared_in_cases, declared_by_head, declared_in, declared_by_catch, default_names, within, Inner, in_body_of_loop, in_cases}
 use Rattle.es_model.specs.FreeNames.{receiver}
 use Rattle.code_gen.specs.Steps.{Coding, Step, Instruction, Leaving, Breaking, Continuing, Returning}
 use Rattle.code_gen.specs.Mentions.{Frame, place_in, place_of_temporary, read_name, write_name, is_unbound, read_this}
 use Rattle.code_gen.specs.Expressions.{binary_row, unary_row, integer, function_number, place_of_function, place_of_constructor, is_anonymous_value, define_mode, prefix_of, cells_of_own_names, set_own_names, set_this}
 use Rattle.code_gen.specs.Statements.{functions_of, functions_of_cases, entry, initialised, caught, copies}
-use Rattle.code_gen.specs.Functions.{steps_of}
+use Rattle.code_gen.specs.Functions.{steps_of, beginning}
 
 -- ---- what stands round a form
 
@@ -453,3 +453,23 @@ module _ (numbering : Text → ℕ) (fetch : ℕ → Option (Op × ℕ)) (catche
   LaidStatement y Whole (t.more one rest) = LaidStatement y Whole one ▸ LaidStatement y Whole rest
   LaidStatement y Whole (t.present one) = LaidStatement y Whole one
   LaidStatement y part _ = nothing
+
+  -- ---- functions, from offset 0 to the end of their code; no handler is in force round them
+
+  abbrev at_end : Laying
+  at_end = op i.Undefined ▸ op i.Return
+
+  abbrev laid_body : Where → Tree t.body → Laying
+  laid_body y (t.BodyStatements list) = plain (entry y.frame y.sees (declared list) (functions_of list)) ▸ LaidStatement y Whole list ▸ at_end
+  laid_body y (t.BodyExpression value) = LaidExpression y Value value ▸ op i.Return
+
+  abbrev at_start : Frame → Setting → Where
+  at_start x g = record { frame = x; sees = g; round = []; next = 0 }
+
+  -- the code of a function that sees, within, what the setting says
+  abbrev pub LaidFunction : Frame → Setting → Tree t.function → ℕ → Type 0
+  LaidFunction x g (t.FunctionOf at name kind parameters body) end = (plain (beginning x g kind parameters) ▸ laid_body (at_start x g) body) None 0 end
+
+  -- the code of a module's body
+  abbrev pub LaidModule : Frame → Setting → Tree (t.list t.item) → ℕ → Type 0
+  LaidModule x g items end = (plain (beginning x g f.Plain []) ▸ LaidStatement (at_start x g) Whole items ▸ at_end) None 0 end
