@@ -26,7 +26,7 @@ three_printed : coded (t.more (t.Import (codes "host") ((pair_of (named_at 9 (co
 unfolding functions writes_constructor mentions free captured gather places captures code statement
 three_printed = refl
 
--- 
+--
 nothing : coded t.none 0 ≡ Some (record {
   instructions = i.Undefined ∷ i.Return ∷ [];
   operands = 1;
@@ -44,7 +44,6 @@ top_level : coded (t.more (t.ExportDeclaration (t.Declare false (t.more (t.Decla
 unfolding functions writes_constructor mentions free captured gather places captures code statement
 top_level = refl
 
-
 -- the bytes of a module's functions
 abbrev bodies : ModuleCode → List (List ℕ)
 bodies module_code = map (λ one. one.code) module_code.functions
@@ -54,7 +53,7 @@ three_printed_bytes : bodies (compiled (t.more (t.Import (codes "host") ((pair_o
 unfolding functions writes_constructor mentions free captured gather places captures code statement
 three_printed_bytes = refl
 
--- 
+--
 nothing_bytes : bodies (compiled t.none (codes "m")) ≡ ((0x00 ∷ 0x38 ∷ []) ∷ [])
 unfolding functions writes_constructor mentions free captured gather places captures code statement
 nothing_bytes = refl

@@ -279,7 +279,7 @@ module _ (numbering : Text → ℕ) (fetch : ℕ → Option (Op × ℕ)) (catche
       LaidExpression y Value by ▸ member_value y kind by value (LaidExpression y Value value) function ▸ op (i.Define (define_mode kind false))
   LaidExpression y InClass (t.MemberOf at fixed kind by value function) =
       class_member (is_constructor (t.MemberOf at fixed kind by value function)) fixed
-        (LaidExpression y Value by ▸ member_value y kind by value (LaidExpression y Value value) function ▸ op (i.Define (define_mode kind true)))
+      (LaidExpression y Value by ▸ member_value y kind by value (LaidExpression y Value value) function ▸ op (i.Define (define_mode kind true)))
   LaidExpression y Value (t.ClassOf at name parent members) =
       let z = seeing y (own_name (names_of name) y.sees) in
       let number = function_number (place_of_constructor (t.ClassOf at name parent members)) y.frame.functions in
@@ -342,10 +342,10 @@ module _ (numbering : Text → ℕ) (fetch : ℕ → Option (Op × ℕ)) (catche
   abbrev finally_code : Where → Bool → (block catch : Where → Laying) → Laying → Laying
   finally_code y catches_too block catch finally handler pc exit =
       (exits : List Leaving) × some (λ k. given (y.next ≤ k) (some (λ thrown. some (λ last.
-        let kind = place_of_temporary k y.frame.places in
-        let held = place_of_temporary (suc k) y.frame.places in
-        let z = record (inside y (Guarded kind held last exits)) { next = k + 2 } in
-        guarded catches_too thrown (block z) (into_finally kind 0 last) (catch z) ▸ mark thrown ▸ op (i.LocalPut held) ▸ op (i.Int (pos 1)) ▸ op (i.LocalPut kind) ▸ mark last ▸ finally ▸ dispatch kind held y.round exits)))) handler pc exit
+      let kind = place_of_temporary k y.frame.places in
+      let held = place_of_temporary (suc k) y.frame.places in
+      let z = record (inside y (Guarded kind held last exits)) { next = k + 2 } in
+      guarded catches_too thrown (block z) (into_finally kind 0 last) (catch z) ▸ mark thrown ▸ op (i.LocalPut held) ▸ op (i.Int (pos 1)) ▸ op (i.LocalPut kind) ▸ mark last ▸ finally ▸ dispatch kind held y.round exits)))) handler pc exit
 
   abbrev is_there : {s : t.Sort} → Tree (t.option s) → Bool
   is_there t.absent = false
@@ -373,7 +373,7 @@ module _ (numbering : Text → ℕ) (fetch : ℕ → Option (Op × ℕ)) (catche
   abbrev for_code : Where → (head copies : Laying) → (test : ℕ → Laying) → (step : Laying) → (body : Where → Laying) → Laying
   for_code y head copies test step body =
       some (λ start. some (λ next. some (λ end.
-        head ▸ copies ▸ mark start ▸ op i.Turn ▸ test end ▸ body (inside y (Loop end next)) ▸ mark next ▸ copies ▸ step ▸ op (i.Jump start) ▸ mark end)))
+      head ▸ copies ▸ mark start ▸ op i.Turn ▸ test end ▸ body (inside y (Loop end next)) ▸ mark next ▸ copies ▸ step ▸ op (i.Jump start) ▸ mark end)))
 
   -- a switch, by the labels of its cases
   abbrev or_default : ℕ → Tree (t.option t.expression) → ℕ → ℕ
@@ -387,9 +387,9 @@ module _ (numbering : Text → ℕ) (fetch : ℕ → Option (Op × ℕ)) (catche
   abbrev switch_code : Where → Tree (t.list t.case) → (value entry : Laying) → (tests : ℕ → List ℕ → Laying) → (lists : Where → List ℕ → Laying) → Laying
   switch_code y cases value entry tests lists handler pc exit =
       (labels : List ℕ) × some (λ k. given (y.next ≤ k) (some (λ end.
-        let held = place_of_temporary k y.frame.places in
-        let z = record (inside y (Cases end)) { next = suc k } in
-        value ▸ op (i.LocalPut held) ▸ entry ▸ tests held labels ▸ op (i.Jump (default_label labels cases end)) ▸ lists z labels ▸ mark end))) handler pc exit
+      let held = place_of_temporary k y.frame.places in
+      let z = record (inside y (Cases end)) { next = suc k } in
+      value ▸ op (i.LocalPut held) ▸ entry ▸ tests held labels ▸ op (i.Jump (default_label labels cases end)) ▸ lists z labels ▸ mark end))) handler pc exit
 
   abbrev test_code : ℕ → List ℕ → Tree (t.option t.expression) → Laying → Laying
   test_code held (label ∷ labels) (t.present of) test = op (i.LocalGet held) ▸ test ▸ op (i.Binary 18) ▸ op (i.JumpIf label)
@@ -416,11 +416,11 @@ module _ (numbering : Text → ℕ) (fetch : ℕ → Option (Op × ℕ)) (catche
       let g = within Inner (declared_by_head head) y.sees in
       let z = seeing y g in
       for_code z
-        (plain (entry y.frame g (declared_by_head head) []) ▸ LaidStatement z Whole head)
-        (plain (copies y.frame g (declared_by_head head)))
-        (unless test (LaidExpression z Value test))
-        (dropped step (LaidExpression z Value step))
-        (λ w. LaidStatement (seeing w (in_body_of_loop g)) Whole body)
+      (plain (entry y.frame g (declared_by_head head) []) ▸ LaidStatement z Whole head)
+      (plain (copies y.frame g (declared_by_head head)))
+      (unless test (LaidExpression z Value test))
+      (dropped step (LaidExpression z Value step))
+      (λ w. LaidStatement (seeing w (in_body_of_loop g)) Whole body)
   LaidStatement y Whole (t.While test body) = while_code y (LaidExpression y Value test) (λ w. LaidStatement (seeing w (in_body_of_loop y.sees)) Whole body)
   LaidStatement y Whole (t.DoWhile body test semi) = do_code y (LaidExpression y Value test) (λ w. LaidStatement (seeing w (in_body_of_loop y.sees)) Whole body)
   LaidStatement y Whole (t.Break at semi) = leave Breaking y.round
@@ -432,16 +432,16 @@ module _ (numbering : Text → ℕ) (fetch : ℕ → Option (Op × ℕ)) (catche
       let c = within Inner (declared_by_catch name catch) y.sees in
       let f = within Inner (declared_in finally) y.sees in
       try_code y (is_there catch) (is_there finally)
-        (λ w. plain (entry y.frame b (declared block) (functions_of block)) ▸ LaidStatement (seeing w b) Whole block)
-        (λ w. plain (caught y.frame c name) ▸ plain (entry y.frame c (declared_in catch) (functions_in catch)) ▸ LaidStatement (seeing w c) Whole catch)
-        (λ w. plain (entry y.frame f (declared_in finally) (functions_in finally)) ▸ LaidStatement (seeing w f) Whole finally)
+      (λ w. plain (entry y.frame b (declared block) (functions_of block)) ▸ LaidStatement (seeing w b) Whole block)
+      (λ w. plain (caught y.frame c name) ▸ plain (entry y.frame c (declared_in catch) (functions_in catch)) ▸ LaidStatement (seeing w c) Whole catch)
+      (λ w. plain (entry y.frame f (declared_in finally) (functions_in finally)) ▸ LaidStatement (seeing w f) Whole finally)
   LaidStatement y Whole (t.Switch value cases) =
       let g = in_cases (within Inner (declared_in_cases cases) y.sees) in
       let z = seeing y g in
       switch_code y cases (LaidExpression y Value value)
-        (plain (entry y.frame g (declared_in_cases cases) (functions_of_cases cases)))
-        (λ held labels. LaidStatement z (Tests held labels) cases)
-        (λ w labels. LaidStatement (seeing w g) (Lists labels) cases)
+      (plain (entry y.frame g (declared_in_cases cases) (functions_of_cases cases)))
+      (λ held labels. LaidStatement z (Tests held labels) cases)
+      (λ w labels. LaidStatement (seeing w g) (Lists labels) cases)
   LaidStatement y Whole (t.DefaultClass class) = LaidExpression y Value class
   LaidStatement y Whole (t.DefaultValue value) = LaidExpression y Value value
   LaidStatement y Whole (t.ExportDeclaration of) = LaidStatement y Whole of

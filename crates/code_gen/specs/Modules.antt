@@ -90,6 +90,7 @@ import_named name (t.more (t.Import source pairs semi) items) = or_else (among p
     or_else : Option Import → Option Import → Option Import
     or_else (Some one) other = Some one
     or_else None other = other
+
     among : List Pair → Option Import
     among [] = None
     among (one ∷ rest) = elim (same_text one.given.name name) [ true ↦ Some (import_of source one) | false ↦ among rest ]

@@ -145,7 +145,7 @@ do_code body test = labelled (λ start. labelled (λ next. labelled (λ end. mar
 abbrev pub for_code : (head copies : Coding) → (test step : Option Expression) → (Around → Coding) → Coding
 for_code head copies test step body =
     labelled (λ start. labelled (λ next. labelled (λ end.
-      head ▸ copies ▸ mark start ▸ op i.Turn ▸ unless test end ▸ body (Loop end next) ▸ mark next ▸ copies ▸ dropped step ▸ to i.Jump start ▸ mark end)))
+    head ▸ copies ▸ mark start ▸ op i.Turn ▸ unless test end ▸ body (Loop end next) ▸ mark next ▸ copies ▸ dropped step ▸ to i.Jump start ▸ mark end)))
 
 -- A switch: its value in a temporary, its tests in order, then its lists in order.
 pub record Case : Type 0 where
@@ -212,14 +212,14 @@ caught_by start end done (Some catch) f = labelled (λ target. f (mark target �
 abbrev pub finally_code : Frame → List Around → (Around → Coding) → (Around → Option Coding) → Coding → Coding
 finally_code x outer block catch finally =
     temporary (λ one. temporary (λ other. labelled (λ start. labelled (λ end. labelled (λ thrown. labelled (λ last.
-      let kind = place_of_temporary one x.places in
-      let held = place_of_temporary other x.places in
-      let around = Guarded kind held last in
-      let done = into_finally kind 0 last in
-      caught_by start end done (catch around) (λ catch_part catch_handler.
-        guarded
-          (mark start ▸ block around ▸ mark end ▸ done ▸ catch_part ▸ mark thrown ▸ op (i.LocalPut held) ▸ op (i.Int (pos 1)) ▸ op (i.LocalPut kind) ▸ mark last)
-          (λ exits. finally ▸ dispatch kind held outer exits ▸ catch_handler ▸ handler start thrown thrown))))))))
+    let kind = place_of_temporary one x.places in
+    let held = place_of_temporary other x.places in
+    let around = Guarded kind held last in
+    let done = into_finally kind 0 last in
+    caught_by start end done (catch around) (λ catch_part catch_handler.
+    guarded
+    (mark start ▸ block around ▸ mark end ▸ done ▸ catch_part ▸ mark thrown ▸ op (i.LocalPut held) ▸ op (i.Int (pos 1)) ▸ op (i.LocalPut kind) ▸ mark last)
+    (λ exits. finally ▸ dispatch kind held outer exits ▸ catch_handler ▸ handler start thrown thrown))))))))
 
 abbrev pub try_code : Frame → List Around → (List Around → Coding) → (List Around → Option Coding) → Option Coding → Coding
 try_code x outer block catch (Some finally) = finally_code x outer (λ around. block (around ∷ outer)) (λ around. catch (around ∷ outer)) finally
@@ -277,9 +277,9 @@ statement x around g (t.If test one other) = if_code (code x g test).value (stat
 statement x around g (t.For head test step body) =
     let h = within Inner (declared_by_head head) g in
     for_code
-      (entry x h (declared_by_head head) [] ▸ statement x around h head)
-      (copies x h (declared_by_head head)) (code x h test) (code x h step)
-      (λ loop. statement x (loop ∷ around) (in_body_of_loop h) body)
+    (entry x h (declared_by_head head) [] ▸ statement x around h head)
+    (copies x h (declared_by_head head)) (code x h test) (code x h step)
+    (λ loop. statement x (loop ∷ around) (in_body_of_loop h) body)
 statement x around g (t.While test body) = while_code (code x g test).value (λ loop. statement x (loop ∷ around) (in_body_of_loop g) body)
 statement x around g (t.DoWhile body test semi) = do_code (λ loop. statement x (loop ∷ around) (in_body_of_loop g) body) (code x g test).value
 statement x around g (t.Break at semi) = exit Breaking around
@@ -291,14 +291,14 @@ statement x around g (t.Try block name catch finally) =
     let c = within Inner (declared_by_catch name catch) g in
     let f = within Inner (declared_in finally) g in
     try_code x around
-      (λ round. block_code x h block (statement x round h block))
-      (λ round. catch_clause x c name catch (statement x round c catch))
-      (finally_clause x f finally (statement x around f finally))
+    (λ round. block_code x h block (statement x round h block))
+    (λ round. catch_clause x c name catch (statement x round c catch))
+    (finally_clause x f finally (statement x around f finally))
 statement x around g (t.Switch value cases) =
     let h = in_cases (within Inner (declared_in_cases cases) g) in
     switch_code x (code x g value).value
-      (entry x h (declared_in_cases cases) (functions_of_cases cases))
-      (λ one. statement x (one ∷ around) h cases)
+    (entry x h (declared_in_cases cases) (functions_of_cases cases))
+    (λ one. statement x (one ∷ around) h cases)
 statement x around g (t.DefaultClass class) = code x g class
 statement x around g (t.DefaultValue value) = (code x g value).value
 statement x around g (t.ExportDeclaration of) = statement x around g of
