@@ -264,6 +264,11 @@ continue_in_loop : early (t.more (t.Plain (t.DoWhile (t.Block (t.more (t.If (t.N
 unfolding failures gather
 continue_in_loop = refl
 
+-- for (;;) continue;
+continue_in_for : early (t.more (t.Plain (t.For t.HeadNothing t.absent t.absent (t.Continue 9 semi.Written))) t.none) ≡ None
+unfolding failures gather
+continue_in_for = refl
+
 -- while (1) { () => { ¦continue; }; }
 continue_in_function : early (t.more (t.Plain (t.While (t.Number (pos 1)) (t.Block (t.more (t.Value (t.Function (t.FunctionOf 12 None f.Arrow [] (t.BodyStatements (t.more (t.Continue 20 semi.Written) t.none)))) semi.Written) t.none)))) t.none) ≡ Some (e.StrayContinue 20)
 unfolding failures gather

@@ -7,7 +7,8 @@ use Rattle.std.proofs.lemmas.Bool.{eqb-true}
 use Rattle.std.proofs.lemmas.Option.{slice_get-map, slice_get-get_or, slice_get_within}
 use Rattle.js_value.specs.Case.{are_keys, texts}
 use Rattle.js_value.proofs.Tables.{keys_when_ascii, texts-ascii}
-use Rattle.es_model.specs.Tokens.{same_text, place_from, keywords, signs, ascending_signs}
+use Rattle.es_model.specs.Tokens.{same_text, place_from, keywords, signs}
+use Rattle.es_model.specs.SignTable.{ascending_signs}
 
 pub same_text-true : (a b : List ℕ) → same_text a b ≡ true → a ≡ b
 same_text-true [] [] h = refl

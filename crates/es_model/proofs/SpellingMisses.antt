@@ -13,8 +13,8 @@ use Rattle.es_model.specs.declared.token.TokenKind.TheVariants as k
 use Rattle.es_model.specs.Tree as t
 use Rattle.es_model.specs.Tree.{Tree}
 use Rattle.es_model.specs.Levels.{InObject, InClass}
-use Rattle.es_model.specs.Readings.{Tokens, First, word, the, same_line, semicolon, may_miss, may_miss_bare}
-use Rattle.es_model.specs.Spelling.{Spells, spells, import_list, module_name}
+use Rattle.es_model.specs.Readings.{Tokens, First, ◌▸◌, word, the, the_name, same_line, semicolon, may_miss, may_miss_bare}
+use Rattle.es_model.specs.Spelling.{Spells, spells, member_parameters, imported, import_list, module_name}
 use Rattle.es_model.proofs.ModuleLaws.{signs_pair_off}
 use Rattle.es_model.proofs.Rows.{token, lined}
 
@@ -41,7 +41,7 @@ and_in_nullish a c d from to h = cc (h.1.0)
 -- `a ?? c && d`
 and_behind_nullish : (a c d : Tree t.expression) (from to : Tokens) → Spells (t.Nullish a (t.And c d)) from to → ⊥
 unfolding Spells
-and_behind_nullish a c d from to h = omega (arith, h.2.2.1.0)
+and_behind_nullish a c d from to h = omega (arith, h.2.2.0)
 
 -- a comma form as an argument
 comma_as_argument : (callee a c : Tree t.expression) (from to : Tokens) → Spells (t.Call callee (t.more (t.Comma a c) t.none)) from to → ⊥
@@ -167,6 +167,49 @@ comparison_assigned at target value from to h = h.1.2.1
 const_in_head : (a : Identifier) (from to : Tokens) → Spells (t.For (t.HeadDeclare true (t.more (t.DeclaratorOf a t.absent) t.none)) t.absent t.absent t.Empty) from to → ⊥
 unfolding Spells
 const_in_head a from to h = cc (h.2.2.1.0)
+
+-- `for (const a = 1, b;;) ;`
+second_const_in_head : (a b : Identifier) (value : Tree t.expression) (from to : Tokens) → Spells (t.For (t.HeadDeclare true (t.more (t.DeclaratorOf a (t.present value)) (t.more (t.DeclaratorOf b t.absent) t.none))) t.absent t.absent t.Empty) from to → ⊥
+unfolding Spells
+second_const_in_head a b value from to h = cc (h.2.2.1.0)
+
+-- a declaration as the body of a `for`, of a `do`, of an `if`, and behind `else`
+declaration_in_for : (names : Tree (t.list t.declarator)) (mark : Semi) (from to : Tokens) → Spells (t.For t.HeadNothing t.absent t.absent (t.Declare false names mark)) from to → ⊥
+unfolding Spells
+declaration_in_for names mark from to h = cc (h.2.2.2.2.2.2.2.2.0)
+
+declaration_in_do : (a : Tree t.expression) (names : Tree (t.list t.declarator)) (mark other : Semi) (from to : Tokens) → Spells (t.DoWhile (t.Declare false names mark) a other) from to → ⊥
+unfolding Spells
+declaration_in_do a names mark other from to h = cc (h.2.1.0)
+
+function_in_if : (a : Tree t.expression) (function : Tree t.function) (from to : Tokens) → Spells (t.If a (t.FunctionStatement function) t.absent) from to → ⊥
+unfolding Spells
+function_in_if a function from to h = cc (h.2.2.2.2.0)
+
+function_before_else : (a : Tree t.expression) (function : Tree t.function) (x : Tree t.statement) (from to : Tokens) → Spells (t.If a (t.FunctionStatement function) (t.present x)) from to → ⊥
+unfolding Spells
+function_before_else a function x from to h = cc (h.2.2.2.2.1.1.0)
+
+class_behind_else : (a : Tree t.expression) (x : Tree t.statement) (class : Tree t.class) (from to : Tokens) → Spells (t.If a x (t.present (t.ClassStatement class))) from to → ⊥
+unfolding Spells
+class_behind_else a x class from to h = cc (h.2.2.2.2.2.2.0)
+
+-- `[a, c]` as a computed key
+comma_in_key : (a c : Tree t.expression) (from to : Tokens) → Spells (t.KeyComputed (t.Comma a c)) from to → ⊥
+unfolding Spells
+comma_in_key a c from to h = omega (arith, h.2.1.0)
+
+-- a comma behind a setter's parameter
+setter_with_comma : (b : Identifier) (text : List ℕ) (rest to : Tokens) → (member_parameters m.Setter (b ∷ []) ▸ the ")") (token (k.Name text) 7 ∷ token (k.Sign 7) 8 ∷ rest) to → ⊥
+unfolding word
+setter_with_comma b text rest to h = let e = subst (λ mid. the ")" mid to) (sym h.1.1) h.2 in cc (e.0)
+
+-- `{default}` in an import, without `as`
+default_imported : (one : Pair) (rest to : Tokens) → imported one (token (k.Keyword 8) 8 ∷ token (k.Sign 1) 15 ∷ rest) to → ⊥
+unfolding word
+default_imported one rest to (inl h) = cc (h.1.0.0)
+default_imported one rest to (inr (mid, inl h, behind)) = cc (h.0.0)
+default_imported one rest to (inr (mid, inr h, behind)) = let e = subst (λ from. the_name "as" from behind.0) (sym h.1.1.1) behind.1 in cc (e.0)
 
 -- a line break after `throw`
 throw_before_line : (value : Tree t.expression) (mark : Semi) (kind : TokenKind) (rest to : Tokens) → Spells (t.Throw value mark) (token (k.Keyword 37) 0 ∷ lined kind 6 ∷ rest) to → ⊥

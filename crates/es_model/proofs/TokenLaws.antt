@@ -11,22 +11,18 @@ use Rattle.es_model.specs.declared.token.TokenKind.{TokenKind}
 use Rattle.es_model.specs.declared.token.TokenKind.TheVariants as k
 use Rattle.es_model.specs.Readings.{same_kind, is_end}
 use Rattle.es_model.specs.SyntaxLaws.{AscendFrom}
-pub use Rattle.es_model.specs.SyntaxLaws.{EndsOnce}
+pub use Rattle.es_model.specs.SyntaxLaws.{EndsOnce, joined}
 use Rattle.es_model.specs.Tokens as s
 use Rattle.es_model.specs.Tokens.{Element, Between, Word, Wrong, Brace, Part, parts_of, element, braces_after, width}
 
--- the spellings of parts, joined
-abbrev pub joined : List Part → List ℕ
-joined parts = flat_map (λ part. part.spelling) parts
-
-joins : (c : ℕ) (cs : List ℕ) (more : ℕ) (rest : List ℕ) → rest ≡ drop more cs → (c ∷ take more cs) ++ rest ≡ c ∷ cs
+pub joins : (c : ℕ) (cs : List ℕ) (more : ℕ) (rest : List ℕ) → rest ≡ drop more cs → (c ∷ take more cs) ++ rest ≡ c ∷ cs
 joins c cs more rest e = ap (λ l. c ∷ take more cs ++ l) e ∙ ap (λ l. c ∷ l) (take-append-drop more cs)
 
 drop_nothing : (n : ℕ) → [] ≡ drop {A = ℕ} n []
 drop_nothing zero = refl
 drop_nothing (suc n) = refl
 
-joined_after : (passed : ℕ) (braces : List Brace) (at : ℕ) (text : List ℕ) → joined (parts_of passed braces at text) ≡ drop passed text
+pub joined_after : (passed : ℕ) (braces : List Brace) (at : ℕ) (text : List ℕ) → joined (parts_of passed braces at text) ≡ drop passed text
 joined_after passed braces at [] = drop_nothing passed
 joined_after (suc passed) braces at (c ∷ cs) = joined_after passed braces (at + width c) cs
 joined_after zero braces at (c ∷ cs) =

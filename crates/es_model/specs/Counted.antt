@@ -1,5 +1,6 @@
 -- The two counts of a tree together (own): its nesting and the number of its functions, each 4294967295
--- where it is more.
+-- where it is more. They serve the program, which computes both in one pass: no definition of the language
+-- stands on them, and that they are `nesting` and `function_count` is proved.
 use Rattle.std.specs.Prelude.{suc, ◌+◌, max, min, Bool, true, false}
 use Rattle.es_model.specs.declared.measure.Counts.{Counts}
 use Rattle.es_model.specs.Tree as t

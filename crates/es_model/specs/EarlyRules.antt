@@ -182,8 +182,9 @@ is_accessor m.Getter = true
 is_accessor m.Setter = true
 is_accessor _ = false
 
-abbrev pub is_constructor : Tree t.member → Bool
-is_constructor (t.MemberOf at fixed kind key value function) = not fixed && not (is_accessor kind) && is_written (codes "constructor") key
+-- a member written as its class's constructor
+abbrev pub is_written_constructor : Tree t.member → Bool
+is_written_constructor (t.MemberOf at fixed kind key value function) = not fixed && not (is_accessor kind) && is_written (codes "constructor") key
 
 abbrev is_misnamed : Bool → MemberKind → Tree t.key → Bool
 is_misnamed true kind key = is_written (codes "prototype") key
@@ -199,7 +200,7 @@ place_of_member (t.MemberOf at fixed kind key value function) = at
 abbrev constructors_after : Bool → Tree (t.list t.member) → Places
 constructors_after seen t.none = []
 constructors_after seen (t.more member members) =
-    (where_true (seen && is_constructor member) (place_of_member member) ++ misnamed member) ++ constructors_after (seen || is_constructor member) members
+    (where_true (seen && is_written_constructor member) (place_of_member member) ++ misnamed member) ++ constructors_after (seen || is_written_constructor member) members
 
 abbrev pub duplicate_constructors : {s : t.Sort} → Setting → Tree s → Places
 duplicate_constructors g (t.ClassOf at name parent members) = constructors_after false members

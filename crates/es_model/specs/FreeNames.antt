@@ -140,8 +140,9 @@ outer_list items [] = top_bindings items
 outer_list items (one ∷ rest) = free items one.at
 
 -- The places of a function: its parameters, the cell of its `this` where that is captured, then its
--- bindings and temporaries in the text's order. A place is known by what it holds: a binding, or the
--- temporary of a mention's number.
+-- bindings and temporaries in the text's order. The parameters come first since they are the first that
+-- a function mentions: what it holds, in the text's order, begins with as many as it has parameters. A
+-- place is known by what it holds: a binding, or the temporary of a mention's number.
 
 pub data Held : Type 0 where
   HoldsBinding : Binding → Held

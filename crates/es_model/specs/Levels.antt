@@ -63,26 +63,8 @@ left_level b.Power = 16
 left_level operator = operator_level operator
 
 abbrev pub right_level : BinaryOperator → ℕ
-right_level b.Add = 13
-right_level b.Subtract = 13
-right_level b.Multiply = 14
-right_level b.Divide = 14
-right_level b.Remainder = 14
-right_level b.Power = 14
-right_level b.BitAnd = 9
-right_level b.BitOr = 7
-right_level b.BitXor = 8
-right_level b.ShiftLeft = 12
-right_level b.ShiftRight = 12
-right_level b.ShiftRightUnsigned = 12
-right_level b.Less = 11
-right_level b.Greater = 11
-right_level b.LessOrEqual = 11
-right_level b.GreaterOrEqual = 11
-right_level b.Equal = 10
-right_level b.NotEqual = 10
-right_level b.StrictEqual = 10
-right_level b.StrictNotEqual = 10
+right_level b.Power = operator_level b.Power
+right_level operator = suc (operator_level operator)
 
 -- the sign of an assignment: `=`, or that of an operator of the levels 6 to 14 but the comparisons
 abbrev pub assignment_sign : Option BinaryOperator → Option String

@@ -121,21 +121,21 @@ abbrev pub semicolon : (Token → Bool) → Semi → Reading
 semicolon may semi.Written = the ";"
 semicolon may semi.Missing = λ from to. (from ≡ to) × First (λ token. may token ≡ true) to
 
--- what goes on with a statement after a line break
+-- what continues a statement after a line break
 abbrev pub is_template : TokenKind → Bool
 is_template (k.Template first last text) = true
 is_template _ = false
 
-abbrev pub goes_on : Token → Bool
-goes_on token = is_template token.kind || any_of ("(" ∷ "[" ∷ "." ∷ "," ∷ "?" ∷ ":" ∷ "=>" ∷ []) token || any_of ("=" ∷ "+=" ∷ "-=" ∷ "*=" ∷ "/=" ∷ "%=" ∷ "**=" ∷ "<<=" ∷ ">>=" ∷ ">>>=" ∷ "&=" ∷ "|=" ∷ "^=" ∷ []) token || any_of ("??" ∷ "||" ∷ "&&" ∷ "|" ∷ "^" ∷ "&" ∷ "==" ∷ "!=" ∷ "===" ∷ "!==" ∷ "<" ∷ ">" ∷ "<=" ∷ ">=" ∷ "in" ∷ "instanceof" ∷ "<<" ∷ ">>" ∷ ">>>" ∷ "+" ∷ "-" ∷ "*" ∷ "/" ∷ "%" ∷ "**" ∷ []) token
+abbrev pub continues_statement : Token → Bool
+continues_statement token = is_template token.kind || any_of ("(" ∷ "[" ∷ "." ∷ "," ∷ "?" ∷ ":" ∷ "=>" ∷ []) token || any_of ("=" ∷ "+=" ∷ "-=" ∷ "*=" ∷ "/=" ∷ "%=" ∷ "**=" ∷ "<<=" ∷ ">>=" ∷ ">>>=" ∷ "&=" ∷ "|=" ∷ "^=" ∷ []) token || any_of ("??" ∷ "||" ∷ "&&" ∷ "|" ∷ "^" ∷ "&" ∷ "==" ∷ "!=" ∷ "===" ∷ "!==" ∷ "<" ∷ ">" ∷ "<=" ∷ ">=" ∷ "in" ∷ "instanceof" ∷ "<<" ∷ ">>" ∷ ">>>" ∷ "+" ∷ "-" ∷ "*" ∷ "/" ∷ "%" ∷ "**" ∷ []) token
 
 -- before `}` and at the end of the text
 abbrev pub ends : Token → Bool
 ends token = is "}" token || is_end token
 
--- at a line break, where the statement doesn't go on
+-- at a line break, where the next token doesn't continue the statement
 abbrev pub may_miss : Token → Bool
-may_miss token = ends token || (token.line_before && not (is ";" token) && not (goes_on token))
+may_miss token = ends token || (token.line_before && not (is ";" token) && not (continues_statement token))
 
 -- the same after the `}` of `export {..}`, where the name `from` goes on too
 abbrev pub is_from : TokenKind → Bool

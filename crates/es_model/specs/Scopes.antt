@@ -13,7 +13,8 @@ pub record Enclosing : Type 0 where
   pub kind : FunctionKind
 
 -- What a binding is: a name at a module's top, an imported name, a name of a scope within, the name
--- that a function expression or a class has inside itself, or a function's `this`.
+-- that a function expression or a class has inside itself, or a function's `this`. The name of a class
+-- statement binds twice at one place of the text: round the class, as Top or Inner, and inside it, as Own.
 pub data Role : Type 0 where
   Top : Role
   Imported : Role

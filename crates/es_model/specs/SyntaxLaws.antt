@@ -1,11 +1,13 @@
 -- What the laws of tokens and trees are stated in (own).
-use Rattle.std.specs.Prelude.{◌≡◌, ℕ, suc, ◌+◌, ◌<◌, ◌≤◌, Bool, true, false, ◌||◌, List, [], ◌∷◌, length, slice_get, Some}
+use Rattle.std.specs.Prelude.{◌≡◌, ℕ, suc, ◌+◌, ◌<◌, ◌≤◌, Bool, true, false, ◌||◌, List, [], ◌∷◌, ◌++◌, length, slice_get, Some}
+use Rattle.std.specs.List.{flat_map}
 use Rattle.es_model.specs.declared.token.Token.{Token}
 use Rattle.es_model.specs.declared.token.TokenKind.{TokenKind}
 use Rattle.es_model.specs.declared.place.Place.{Place}
 use Rattle.es_model.specs.declared.place.Place.TheVariants.{Local, Boxed, Outer, Import, Global, Unbound}
 use Rattle.es_model.specs.Tree as t
 use Rattle.es_model.specs.Tree.{Tree, Text}
+use Rattle.es_model.specs.Tokens.{Between, Word, Wrong, Brace, Part, element, braces_after}
 use Rattle.es_model.specs.Readings.{same_kind, is_end, word}
 use Rattle.es_model.specs.Functions.{FunctionForm, Written, Generated}
 use Rattle.es_model.specs.Scopes.{Enclosing, Binding}
@@ -20,6 +22,34 @@ AscendFrom low (token ∷ tokens) = (low ≤ token.at) × AscendFrom (suc token.
 abbrev pub EndsOnce : List Token → Type 0
 EndsOnce [] = ⊥
 EndsOnce (token ∷ tokens) = elim (is_end token) [ true ↦ tokens ≡ [] | false ↦ EndsOnce tokens ]
+
+-- A character and those after it are one token, given the braces that are open at its place.
+abbrev pub IsOneToken : List Brace → ℕ → ℕ → List ℕ → Type 0
+IsOneToken braces at c cs = (kind : TokenKind) × (element braces at c cs ≡ Word kind (length cs))
+
+-- Of the texts that begin with a character and are a front of what is left, one with so many characters
+-- after it is the longest token: any other that is one token is no longer.
+abbrev pub IsLongest : List Brace → ℕ → ℕ → List ℕ → ℕ → Type 0
+IsLongest braces at c cs more = (front rest : List ℕ) → front ++ rest ≡ cs → IsOneToken braces at c front → length front ≤ more
+
+-- the same of what is left of a text, at whose end nothing stands
+abbrev pub LongestIn : List Brace → ℕ → List ℕ → ℕ → Type 0
+LongestIn braces at [] more = Unit {0}
+LongestIn braces at (c ∷ cs) more = IsLongest braces at c cs more
+
+-- the text of parts
+abbrev pub joined : List Part → List ℕ
+joined parts = flat_map (λ part. part.spelling) parts
+
+-- Each token among the parts of a text is the longest that begins at its place.
+abbrev pub EachLongest : List Brace → List Part → Type 0
+EachLongest braces [] = Unit {0}
+EachLongest braces (part ∷ parts) =
+    elim part.element [
+      | Between line more ↦ EachLongest braces parts
+      | Word kind more ↦ LongestIn braces part.at (joined (part ∷ parts)) more × EachLongest (braces_after part.at kind braces) parts
+      | Wrong fault ↦ Unit {0}
+    ]
 
 -- the place where the text of a function begins; of a generated constructor, that of the word `class`
 abbrev pub place_of_function : FunctionForm → ℕ

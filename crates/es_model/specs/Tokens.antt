@@ -88,16 +88,6 @@ signs =
     codes "%=" ∷ codes "**=" ∷ codes "<<=" ∷ codes ">>=" ∷ codes ">>>=" ∷ codes "&=" ∷ codes "|=" ∷ codes "^=" ∷
     codes "=>" ∷ []
 
--- the same texts in ascending order
-abbrev pub ascending_signs : List (List ℕ)
-ascending_signs =
-    codes "!" ∷ codes "!=" ∷ codes "!==" ∷ codes "%" ∷ codes "%=" ∷ codes "&" ∷ codes "&&" ∷ codes "&=" ∷ codes "(" ∷
-    codes ")" ∷ codes "*" ∷ codes "**" ∷ codes "**=" ∷ codes "*=" ∷ codes "+" ∷ codes "++" ∷ codes "+=" ∷ codes "," ∷
-    codes "-" ∷ codes "--" ∷ codes "-=" ∷ codes "." ∷ codes "/" ∷ codes "/=" ∷ codes ":" ∷ codes ";" ∷ codes "<" ∷
-    codes "<<" ∷ codes "<<=" ∷ codes "<=" ∷ codes "=" ∷ codes "==" ∷ codes "===" ∷ codes "=>" ∷ codes ">" ∷ codes ">=" ∷
-    codes ">>" ∷ codes ">>=" ∷ codes ">>>" ∷ codes ">>>=" ∷ codes "?" ∷ codes "??" ∷ codes "[" ∷ codes "]" ∷ codes "^" ∷
-    codes "^=" ∷ codes "{" ∷ codes "|" ∷ codes "|=" ∷ codes "||" ∷ codes "}" ∷ codes "~" ∷ []
-
 abbrev pub same_text : List ℕ → List ℕ → Bool
 same_text [] [] = true
 same_text [] (d ∷ b) = false
@@ -230,8 +220,8 @@ in_string quote c =
     ]
 
 -- The units of a string from inside it up to its closing quote, with the number of characters, the
--- quote among them. The first `passed` characters were read already; `begun` is the place of the
--- opening quote and `at` of the next character.
+-- quote among them: those that `StringCharacters` of Contents says, as is proved. The first `passed`
+-- characters were read already; `begun` is the place of the opening quote and `at` of the next character.
 abbrev pub string_from : (quote passed begun at : ℕ) → List ℕ → Result (List ℕ × Bool × ℕ) LexFault
 string_from quote passed begun at [] = Err (OpenString begun)
 string_from quote (suc passed) begun at (c ∷ cs) = after [] 1 (string_from quote passed begun (at + width c) cs)
@@ -260,8 +250,9 @@ in_template c cs =
     ]
 
 -- The units of a template's piece from inside it up to its backquote, or to a substitution, with
--- whether it is the last piece, and with the number of characters, those that end it among them. CR
--- and CR LF read as LF. `begun` is the place of the template's opening backquote.
+-- whether it is the last piece, and with the number of characters, those that end it among them: those
+-- that `TemplateCharacters` of Contents says, as is proved. CR and CR LF read as LF. `begun` is the place
+-- of the template's opening backquote.
 abbrev pub template_from : (passed begun at : ℕ) → List ℕ → Result (List ℕ × Bool × ℕ) LexFault
 template_from passed begun at [] = Err (OpenTemplate begun)
 template_from (suc passed) begun at (c ∷ cs) = after [] 1 (template_from passed begun (at + width c) cs)

@@ -1,7 +1,8 @@
 //! The keywords and the signs by their texts (ECMA-262, 12.7.2 and 12.8).
 
 ghost use Rattle.std.specs.Prelude.{◌≡◌, ◌<◌, Some, length, slice_get};
-ghost use Rattle.es_model.specs.Tokens.{ascending_signs, keywords, signs, keyword_of, place_from};
+ghost use Rattle.es_model.specs.SignTable.{ascending_signs};
+ghost use Rattle.es_model.specs.Tokens.{keywords, signs, keyword_of, place_from};
 
 use js_value::Case;
 use std::marker::Model;
@@ -89,7 +90,8 @@ pub struct Words {
 // There is one such value, since the tables hold the texts of the definitions.
 impl Model for Words {
     ghost use Rattle.std.specs.Prelude.{◌≡◌};
-    ghost use Rattle.es_model.specs.Tokens.{keywords, ascending_signs};
+    ghost use Rattle.es_model.specs.SignTable.{ascending_signs};
+    ghost use Rattle.es_model.specs.Tokens.{keywords};
 
     ghost Value = { Unit {0} };
 

@@ -1,18 +1,22 @@
--- A way of calling by the rules leaves well-formed worlds, and doesn't depend on the numbers of things, where the way of
--- running bodies does so.
+-- A way of calling by the rules leaves well-formed worlds, keeps what every deed keeps, and depends neither on the numbers
+-- of things nor on the ledger, where the way of running bodies does so.
 use Rattle.std.proofs.Common.{◌≡◌, ℕ, suc, ◌≤◌, Bool, true, false, cond, nat_lt, List, [], ◌∷◌, length, refl, ap, le_trans}
 use Rattle.js_value.specs.Value.{Value}
 use Rattle.js_value.specs.WellFormed.{AreValuesBelow}
 use Rattle.js_value.proofs.Below.{value_more, if_value_more}
-use Rattle.es_ops.specs.State.{State}
-use Rattle.es_ops.specs.Ledger.{Depth}
+use Rattle.es_ops.specs.State.{World, State}
+use Rattle.es_ops.specs.Ledger.{Budget, Depth, OutOf, NoHost}
+use Rattle.es_ops.specs.Events.{Deed, perform}
 use Rattle.es_ops.specs.Act.{Ran, Ends, Halts, Calls, run}
 use Rattle.es_ops.specs.Calling.{most_depth, entered, left, body_of, may_be_called, may_be_entered, by_rules}
-use Rattle.es_ops.specs.Laws.{IsWorldWellFormed, IsRanWellFormed, CallsWell}
+use Rattle.es_ops.specs.Laws.{IfHappens, IsAlikeState, EndAlikeUnlessFull, IsWorldWellFormed, IsRanWellFormed, CallsWell}
 use Rattle.es_ops.specs.Related.{BothValue}
 use Rattle.es_ops.specs.Renaming.{Pairs, named, Extends, BothSides, BothRan, BothCalling}
-use Rattle.es_ops.proofs.Stand.{value_both, if_value_both, stands_well}
+use Rattle.es_ops.proofs.Diagonal.{value_both, if_value_both}
+use Rattle.es_ops.proofs.Stand.{stands_well}
 use Rattle.es_ops.proofs.MoreNames.{value_more as value_named, list_more, option_more}
+use Rattle.es_ops.proofs.RunsKeep.{Keeps, CallsKeep, spent_keeps, returned_keeps, run_keeps}
+use Rattle.es_ops.proofs.TwoLedgers.{CallAlikeUnlessFull, spent_alike, returned_alike, ledgers_alike}
 use Rattle.es_ops.proofs.WellFormedRuns.{spent_well, returned_well}
 use Rattle.es_ops.proofs.RunsRelated.{spent_both, returned_both}
 use Rattle.es_ops.proofs.AppliesRelated.{runs_related}
@@ -24,10 +28,10 @@ left_well : (m depth : ℕ) (r : Ran) → IsRanWellFormed m r → IsRanWellForme
 left_well m depth (Ends c s) h = h
 left_well m depth (Halts stop s) h = h
 
-entered_well : (s : State) (f : State → Ran) → IsWorldWellFormed s.world → IsRanWellFormed (length s.world.store) (f (record s { depth = suc s.depth })) → IsRanWellFormed (length s.world.store) (entered s f)
+entered_well : (s : State) (f : State → Ran) → IsWorldWellFormed s.world → IsRanWellFormed (length s.world.heap.store) (f (record s { depth = suc s.depth })) → IsRanWellFormed (length s.world.heap.store) (entered s f)
 entered_well s f h g = by_test (nat_lt s.depth most_depth)
   where
-    by_test : (b : Bool) → IsRanWellFormed (length s.world.store) (cond b (f (record s { depth = suc s.depth })) (Halts Depth s))
+    by_test : (b : Bool) → IsRanWellFormed (length s.world.heap.store) (cond b (f (record s { depth = suc s.depth })) (Halts Depth s))
     by_test true = g
     by_test false = h
 
@@ -38,14 +42,14 @@ values_below m k le (v ∷ vs) h = (value_more m k le v h.0, values_below m k le
 pub by_rules_well : (bodies : Calls) → CallsWell bodies → CallsWell (by_rules bodies)
 unfolding by_rules
 by_rules_well bodies well f this vs target s h a b c d =
-    returned_well (length s.world.store) (run bodies (may_be_called f target) s) _
-    (stands_well bodies well (may_be_called f target) s h (λ n le. may_be_called_related f f target target (value_both (length s.world.store) n le f a) (if_value_both (length s.world.store) n le target d)))
-    (λ v t w l y. spent_well t.meter t _ w (λ n. left_well (length t.world.store) t.depth _ (entered_well (record t { meter = n }) (body_of bodies f this vs target) w (body (record t { meter = n; depth = suc t.depth }) w l))))
+    returned_well (length s.world.heap.store) (run bodies (may_be_called f target) s) _
+    (stands_well bodies well (may_be_called f target) s h (λ n le. may_be_called_related f f target target (value_both (length s.world.heap.store) n le f a) (if_value_both (length s.world.heap.store) n le target d)))
+    (λ v t w l y. spent_well t.meter t _ w (λ n. left_well (length t.world.heap.store) t.depth _ (entered_well (record t { meter = n }) (body_of bodies f this vs target) w (body (record t { meter = n; depth = suc t.depth }) w l))))
   where
-    body : (t : State) → IsWorldWellFormed t.world → length s.world.store ≤ length t.world.store → IsRanWellFormed (length t.world.store) (body_of bodies f this vs target t)
+    body : (t : State) → IsWorldWellFormed t.world → length s.world.heap.store ≤ length t.world.heap.store → IsRanWellFormed (length t.world.heap.store) (body_of bodies f this vs target t)
     body t w l =
-        returned_well (length t.world.store) (run bodies (may_be_entered f target) t) _
-        (stands_well bodies well (may_be_entered f target) t w (λ n le. may_be_entered_related f f target target (value_both (length t.world.store) n le f (value_more _ _ l f a)) (if_value_both (length t.world.store) n le target (if_value_more _ _ l target d))))
+        returned_well (length t.world.heap.store) (run bodies (may_be_entered f target) t) _
+        (stands_well bodies well (may_be_entered f target) t w (λ n le. may_be_entered_related f f target target (value_both (length t.world.heap.store) n le f (value_more _ _ l f a)) (if_value_both (length t.world.heap.store) n le target (if_value_more _ _ l target d))))
         (λ v u z m y. well f this vs target u z (value_more _ _ (le_trans l m) f a) (value_more _ _ (le_trans l m) this b) (values_below _ _ (le_trans l m) vs c) (if_value_more _ _ (le_trans l m) target d))
 
 -- ---- numbers don't matter
@@ -82,3 +86,65 @@ by_rules_both c d calls ps f g this that vs ws x y s t i j k l h =
       where
         up : (os : Pairs) → Extends qs os → (v w : Value) → BothValue (named ps) v w → BothValue (named os) v w
         up os z = value_named (named ps) (named os) (λ m n r. z m n (e m n r))
+
+-- ---- what every deed keeps
+
+module _ (P : World → Type 0) where
+  left_keeps : (depth : ℕ) (x : Ran) → Keeps P x → Keeps P (left depth x)
+  left_keeps depth (Ends c s) h = h
+  left_keeps depth (Halts stop s) h = h
+
+  entered_keeps : (s : State) (f : State → Ran) → P s.world → ((t : State) → P t.world → Keeps P (f t)) → Keeps P (entered s f)
+  entered_keeps s f h next = by_test (nat_lt s.depth most_depth)
+    where
+      by_test : (b : Bool) → Keeps P (cond b (f (record s { depth = suc s.depth })) (Halts Depth s))
+      by_test true = next (record s { depth = suc s.depth }) h
+      by_test false = h
+
+  pub by_rules_keeps : ((d : Deed) (w : World) → P w → IfHappens (perform d w) (λ a v. P v)) → (bodies : Calls) → CallsKeep P bodies → CallsKeep P (by_rules bodies)
+  unfolding by_rules
+  by_rules_keeps deeds bodies keep f this vs target s h =
+      returned_keeps P (run bodies (may_be_called f target) s) _ (run_keeps P deeds bodies keep (may_be_called f target) s h)
+      (λ v t p. spent_keeps P t.meter t _ p (λ u q. left_keeps u.depth (entered u (body_of bodies f this vs target)) (entered_keeps u (body_of bodies f this vs target) q body)))
+    where
+      body : (t : State) → P t.world → Keeps P (body_of bodies f this vs target t)
+      body t p =
+          returned_keeps P (run bodies (may_be_entered f target) t) _ (run_keeps P deeds bodies keep (may_be_entered f target) t p)
+          (λ v u q. keep f this vs target u q)
+
+-- ---- two ledgers
+
+left_alike : (m n : ℕ) (x y : Ran) → n ≡ m → EndAlikeUnlessFull x y → EndAlikeUnlessFull (left m x) (left n y)
+left_alike m n (Halts (OutOf full) s) y e h = tt
+left_alike m n (Ends c s) (Ends d t) e h = (h.0, record { worlds = h.1.worlds; meter = h.1.meter; depth = e })
+left_alike m n (Ends c s) (Halts (OutOf full) t) e h = tt
+left_alike m n (Ends c s) (Halts Budget t) e h = absurd h
+left_alike m n (Ends c s) (Halts Depth t) e h = absurd h
+left_alike m n (Ends c s) (Halts NoHost t) e h = absurd h
+left_alike m n (Halts Budget s) (Ends d t) e h = absurd h
+left_alike m n (Halts Depth s) (Ends d t) e h = absurd h
+left_alike m n (Halts NoHost s) (Ends d t) e h = absurd h
+left_alike m n (Halts Budget s) (Halts y t) e h = h
+left_alike m n (Halts Depth s) (Halts y t) e h = h
+left_alike m n (Halts NoHost s) (Halts y t) e h = h
+
+entered_alike : (s t : State) (f g : State → Ran) → IsAlikeState s t → ((s t : State) → IsAlikeState s t → EndAlikeUnlessFull (f s) (g t)) → EndAlikeUnlessFull (entered s f) (entered t g)
+entered_alike s t f g e next = by_depth (nat_lt s.depth most_depth) (nat_lt t.depth most_depth) (ap (λ n. nat_lt n most_depth) e.depth)
+  where
+    at : (b : Bool) → EndAlikeUnlessFull (cond b (f (record s { depth = suc s.depth })) (Halts Depth s)) (cond b (g (record t { depth = suc t.depth })) (Halts Depth t))
+    at true = next (record s { depth = suc s.depth }) (record t { depth = suc t.depth }) (record { worlds = e.worlds; meter = e.meter; depth = ap (λ n. suc n) e.depth })
+    at false = (refl, e)
+
+    by_depth : (b c : Bool) → c ≡ b → EndAlikeUnlessFull (cond b (f (record s { depth = suc s.depth })) (Halts Depth s)) (cond c (g (record t { depth = suc t.depth })) (Halts Depth t))
+    by_depth b c q = rw q (at b)
+
+pub by_rules_alike : (c d : Calls) → CallAlikeUnlessFull c d → CallAlikeUnlessFull (by_rules c) (by_rules d)
+unfolding by_rules
+by_rules_alike c d same f this vs target s t r =
+    returned_alike (run c (may_be_called f target) s) (run d (may_be_called f target) t) _ _ (ledgers_alike c d same (may_be_called f target) s t r)
+    (λ v s t e. spent_alike s.meter t.meter s t _ _ e.meter e (λ s t e. left_alike s.depth t.depth _ _ e.depth (entered_alike s t (body_of c f this vs target) (body_of d f this vs target) e body)))
+  where
+    body : (s t : State) → IsAlikeState s t → EndAlikeUnlessFull (body_of c f this vs target s) (body_of d f this vs target t)
+    body s t e =
+        returned_alike (run c (may_be_entered f target) s) (run d (may_be_entered f target) t) _ _ (ledgers_alike c d same (may_be_entered f target) s t e)
+        (λ v s t e. same f this vs target s t e)

@@ -3,7 +3,7 @@ use Rattle.std.proofs.Common.{◌≡◌, ℕ, Bool, true, false, List, [], ◌�
 use Rattle.js_value.specs.Value.{Value, Undefined, Null, Boolean, Number, String, Object, Key, Index, Named, Numeral, key_of_text, key_of_number}
 use Rattle.js_value.specs.Store.{Thing, AnObject, ACell, AMark, ObjectRecord, Class, ResolveFunction, RejectFunction, Error, Array, Property, Data, Promise, PromiseState, Pending, Fulfilled, Rejected, Reaction, ScriptFunction, own_keys, with_property, without_property, is_frozen}
 use Rattle.js_value.specs.NumberText.{text_of_number, number_of_text}
-use Rattle.js_value.specs.Job.{FulfilJob, RejectJob, ThenableJob}
+use Rattle.js_value.specs.Job.{Job, FulfilJob, RejectJob, ThenableJob}
 use Rattle.js_value.specs.declared.counts.Room.{Room}
 use Rattle.es_ops.specs.State.{World, nothing, some_slots, costs_at_start}
 use Rattle.js_value.specs.declared.counts.Full.TheVariants.{Slots}
@@ -18,7 +18,7 @@ use Rattle.es_ops.specs.Conversions.{to_number, to_string, to_property_key, numb
 use Rattle.es_ops.specs.PropertyReads.{get, get_v, has_property}
 use Rattle.es_ops.specs.PropertyWrites.{put_value, set_or_throw, create_data_property_or_throw, define_property_or_throw, delete_v, ordinary_set}
 use Rattle.es_ops.specs.Jobs.{call_resolve_function, call_reject_function, fulfil_promise, reject_promise, promise_then, run_first_job, run_job, create_resolving_functions, resolve_promise}
-use Rattle.es_ops.proofs.Samples.{plain, getter, setter, ordinary, array_of, function, blank, realm_of, ample, world_with, world_of, state_in, calls, runs, came, Came, Gave, Threw, Stopped, world_after, thing_after, used_after, computing}
+use Rattle.es_ops.proofs.Samples.{plain, getter, setter, ordinary, array_of, function, blank, realm_of, ample, world_with, world_of, with_store, state_in, calls, runs, came, Came, Gave, Threw, Stopped, world_after, thing_after, used_after, computing}
 
 rom : List Thing → (slots : ℕ) → Act → Ran
 rom things slots p = run calls p (state_in (world_with (record ample { slots = slots }) things (costs_at_start true (realm_of things))))
@@ -122,7 +122,7 @@ costs_of_names : map flat_cost (put_value (Object 13) (Named (codes "zz")) n1 (p
 unfolding computing a n1 done naming flat_cost
 costs_of_names = refl
 
-names_in_order : (world_after (runs (put_value (Object 13) (Named (codes "zz")) n1 (put_value (Object 13) (key_of_number (negsuc 4)) n1 done)) naming)).names ≡ codes "length" ∷ codes "a" ∷ codes "b" ∷ codes "then" ∷ codes "zz" ∷ codes "-5" ∷ []
+names_in_order : (world_after (runs (put_value (Object 13) (Named (codes "zz")) n1 (put_value (Object 13) (key_of_number (negsuc 4)) n1 done)) naming)).heap.names ≡ codes "length" ∷ codes "a" ∷ codes "b" ∷ codes "then" ∷ codes "zz" ∷ codes "-5" ∷ []
 unfolding computing n1 done naming
 names_in_order = refl
 
@@ -248,16 +248,20 @@ rejections_in_order : (after (call_resolve_function 13 15 (Object 16))).rejectio
 unfolding computing n1 done promise ps after
 rejections_in_order = refl
 
+-- promises and a queue of jobs
+waiting : List Job → World
+waiting jobs = record (world_of ps) { heap = record (world_of ps).heap { jobs = jobs } }
+
 -- no unit for a job
 no_unit : Ran
-no_unit = run calls run_first_job (record (state_in (record (world_of ps) { jobs = FulfilJob Undefined 13 Null ∷ [] })) { meter = 0 })
+no_unit = run calls run_first_job (record (state_in (waiting (FulfilJob Undefined 13 Null ∷ []))) { meter = 0 })
 
 job_without_a_unit : came no_unit ≡ Stopped Budget
-unfolding computing promise n1 ps no_unit
+unfolding computing promise n1 ps waiting no_unit
 job_without_a_unit = refl
 
-job_stays_without_a_unit : (world_after no_unit).jobs ≡ FulfilJob Undefined 13 Null ∷ []
-unfolding computing promise n1 ps no_unit
+job_stays_without_a_unit : (world_after no_unit).heap.jobs ≡ FulfilJob Undefined 13 Null ∷ []
+unfolding computing promise n1 ps waiting no_unit
 job_stays_without_a_unit = refl
 
 -- a thenable's job: mark 21, functions 22 and 23; where `then` throws, the mark is set
@@ -317,7 +321,7 @@ fs : List Thing
 fs = AnObject (function 1) ∷ []
 
 primitive : ℕ → Act → Came
-primitive place p = came (run calls p (state_in (record (world_of fs) { store = set (realm_of fs) place (AnObject (ordinary None ((codes "a", getter (Object 13)) ∷ (codes "b", setter (Object 13)) ∷ []))) })))
+primitive place p = came (run calls p (state_in (with_store (world_of fs) (set (realm_of fs) place (AnObject (ordinary None ((codes "a", getter (Object 13)) ∷ (codes "b", setter (Object 13)) ∷ [])))))))
 
 primitives_as_receivers : primitive 11 (get_v (String (codes "xy")) a Give) ∷ primitive 8 (get_v n1 a Give) ∷ primitive 7 (get_v (Boolean true) a Give) ∷ primitive 11 (put_value (String (codes "xy")) (Named (codes "b")) n1 done) ∷ primitive 11 (put_value (String (codes "xy")) a n1 done) ∷ primitive 0 (get_v n1 a Give) ∷ []
     ≡ Gave (String (codes "xy")) ∷ Gave n1 ∷ Gave (Boolean true) ∷ Gave Null ∷ Threw (Object 14) ∷ Gave Undefined ∷ []
@@ -390,12 +394,12 @@ unfolding computing a n1
 attributes_stay_through_super = refl
 
 -- the queue is first in, first out; four slots each
-queue_in_order : (after (fulfil_promise 13 Null (promise_then 13 (Object 20) Null (λ d. promise_then 13 (Object 17) Null (λ e. done))))).jobs ≡ FulfilJob (Object 20) 21 Null ∷ FulfilJob (Object 17) 22 Null ∷ []
+queue_in_order : (after (fulfil_promise 13 Null (promise_then 13 (Object 20) Null (λ d. promise_then 13 (Object 17) Null (λ e. done))))).heap.jobs ≡ FulfilJob (Object 20) 21 Null ∷ FulfilJob (Object 17) 22 Null ∷ []
 unfolding computing promise n1 done ps after
 queue_in_order = refl
 
 -- a promise that is resolved with a promise with a `then`: two jobs later; here its own `then` is callable
-thenable_of_a_promise : (after (resolve_promise 13 (Object 16) done)).jobs ≡ []
+thenable_of_a_promise : (after (resolve_promise 13 (Object 16) done)).heap.jobs ≡ []
 unfolding computing promise n1 done ps after
 thenable_of_a_promise = refl
 
@@ -403,7 +407,7 @@ thenable_of_a_promise = refl
 closed : List Thing
 closed = AnObject (record (ordinary None []) { extensible = false }) ∷ []
 
-refused_name : (world_after (runs (put_value (Object 13) (Named (codes "zz")) n1 done) closed)).names ≡ codes "length" ∷ codes "a" ∷ codes "b" ∷ codes "then" ∷ []
+refused_name : (world_after (runs (put_value (Object 13) (Named (codes "zz")) n1 done) closed)).heap.names ≡ codes "length" ∷ codes "a" ∷ codes "b" ∷ codes "then" ∷ []
 unfolding computing n1 done closed
 refused_name = refl
 
@@ -440,7 +444,7 @@ counts_of_then_at_stops = refl
 both : List Thing
 both = promise Pending (record { derived = 14; on_fulfilled = Object 15; on_rejected = Object 16 } ∷ []) ∷ promise Pending [] ∷ AnObject (function 1) ∷ AnObject (function 3) ∷ AnObject (ordinary None ((codes "then", plain (Object 15)) ∷ [])) ∷ AnObject (ordinary None ((codes "toString", plain (Object 17)) ∷ (codes "valueOf", plain (Object 16)) ∷ [])) ∷ AnObject (ordinary None ((codes "toString", plain (Object 16)) ∷ (codes "valueOf", plain (Object 20)) ∷ [])) ∷ AnObject (function 4) ∷ []
 
-job_of_a_rejection : (world_after (runs (reject_promise 13 n1 done) both)).jobs ≡ RejectJob (Object 16) 14 n1 ∷ []
+job_of_a_rejection : (world_after (runs (reject_promise 13 n1 done) both)).heap.jobs ≡ RejectJob (Object 16) 14 n1 ∷ []
 unfolding computing promise n1 done both
 job_of_a_rejection = refl
 
@@ -452,7 +456,7 @@ no_rejection_with_a_reaction = refl
 thenable_calls : Calls
 thenable_calls f this vs target s = Ends (NormalCompletion (Object 17)) s
 
-handler_that_gives_a_thenable : (world_after (run thenable_calls (run_job (FulfilJob (Object 15) 14 Null)) (state_in (world_of both)))).jobs ≡ ThenableJob 14 (Object 17) (Object 15) ∷ []
+handler_that_gives_a_thenable : (world_after (run thenable_calls (run_job (FulfilJob (Object 15) 14 Null)) (state_in (world_of both)))).heap.jobs ≡ ThenableJob 14 (Object 17) (Object 15) ∷ []
 unfolding computing promise n1 both thenable_calls
 handler_that_gives_a_thenable = refl
 
@@ -515,12 +519,12 @@ late_job_takes_the_rejection_back = refl
 
 -- the first of two jobs runs, and the other stays
 two_jobs : Ran
-two_jobs = run calls run_first_job (state_in (record (world_of ps) { jobs = FulfilJob Undefined 13 n1 ∷ FulfilJob Undefined 14 Null ∷ [] }))
+two_jobs = run calls run_first_job (state_in (waiting (FulfilJob Undefined 13 n1 ∷ FulfilJob Undefined 14 Null ∷ [])))
 
-first_job_leaves_the_queue : (world_after two_jobs).jobs ≡ FulfilJob Undefined 14 Null ∷ []
-unfolding computing promise n1 ps two_jobs
+first_job_leaves_the_queue : (world_after two_jobs).heap.jobs ≡ FulfilJob Undefined 14 Null ∷ []
+unfolding computing promise n1 ps waiting two_jobs
 first_job_leaves_the_queue = refl
 
 first_job_runs : thing_after two_jobs 13 ≡ Some (promise (Fulfilled n1) [])
-unfolding computing promise n1 ps two_jobs
+unfolding computing promise n1 ps waiting two_jobs
 first_job_runs = refl

@@ -33,7 +33,7 @@ zero_counts : Room
 zero_counts = record { slots = 0; units = 0; names = 0 }
 
 world_of : Store → List ℕ → World
-world_of s realm = record { store = s; realm = realm; names = []; ledger = record { used = zero_counts; room = plenty; first_costs = [] }; jobs = []; rejections = []; modules = []; functions = []; trace = []; input = None }
+world_of s realm = record { heap = record { store = s; realm = realm; names = []; ledger = record { used = zero_counts; room = plenty; first_costs = [] }; jobs = [] }; rejections = []; modules = []; functions = []; trace = []; input = None }
 
 left : State
 left = record { world = world_of (AnObject object ∷ []) []; meter = 5; depth = 0 }
@@ -88,29 +88,33 @@ start = (0, 1) ∷ []
 left_well : IsWorldWellFormed left.world
 unfolding left world_of object
 left_well = record {
-  store = append_well [] (AnObject object) empty_well (record { indices = tt; range = tt; length = tt; names = tt; distinct = tt; no_length = tt }) (record { class = tt; prototype = tt; indexed = tt; named = tt });
-  jobs = tt;
+  heap = record {
+    store = append_well [] (AnObject object) empty_well (record { indices = tt; range = tt; length = tt; names = tt; distinct = tt; no_length = tt }) (record { class = tt; prototype = tt; indexed = tt; named = tt });
+    jobs = tt;
+    realm = tt;
+    not_empty = lit≤ tt;
+  };
   rejections = tt;
-  realm = tt;
   modules = tt;
-  not_empty = lit≤ tt;
 }
 
 sides : BothSides start left right
 unfolding left right world_of object start
 sides = record {
   world = record {
-    one_to_one = record { forth = λ m n o r s. by_forth m n o r s; back = λ m n o r s. by_back m n o r s };
-    stand = λ m n r. by_stand m n r;
-    things = λ m n r. by_thing m n r;
-    realm = λ i. inl (refl, one_at 104 (place_of i) (in_realm i));
-    names = refl;
-    used = refl;
-    room = refl;
-    costs = λ m n r. refl;
-    costs_left = lit≤ tt;
-    costs_right = lit≤ tt;
-    jobs = BothEmpty;
+    heap = record {
+      one_to_one = record { forth = λ m n o r s. by_forth m n o r s; back = λ m n o r s. by_back m n o r s };
+      stand = λ m n r. by_stand m n r;
+      things = λ m n r. by_thing m n r;
+      realm = λ i. inl (refl, one_at 104 (place_of i) (in_realm i));
+      names = refl;
+      used = refl;
+      room = refl;
+      costs = λ m n r. refl;
+      costs_left = lit≤ tt;
+      costs_right = lit≤ tt;
+      jobs = BothEmpty;
+    };
     rejections = BothEmpty;
     modules = BothEmpty;
     functions = refl;
@@ -132,11 +136,11 @@ sides = record {
     by_back m n o (inl r) (inr s) = absurd s
     by_back m n o (inr r) s = absurd r
 
-    by_stand : (m n : ℕ) → named start m n → (m < length left.world.store) × (n < length right.world.store)
+    by_stand : (m n : ℕ) → named start m n → (m < length left.world.heap.store) × (n < length right.world.heap.store)
     by_stand m n (inl r) = rw (r.0, r.1) (lit≤ tt, lit≤ tt)
     by_stand m n (inr r) = absurd r
 
-    by_thing : (m n : ℕ) → named start m n → BothOption (BothThing (named start)) (slice_get left.world.store m) (slice_get right.world.store n)
+    by_thing : (m n : ℕ) → named start m n → BothOption (BothThing (named start)) (slice_get left.world.heap.store m) (slice_get right.world.heap.store n)
     by_thing m n (inl r) = rw (r.0, r.1) (BothSome (BothAnObject (record { class = BothOrdinary; prototype = BothNone; extensible = refl; indexed = BothEmpty; named = BothEmpty })))
     by_thing m n (inr r) = absurd r
 

@@ -1,43 +1,51 @@
 -- No event makes a count fall, takes a name or a thing away, or changes a limit.
-use Rattle.std.proofs.Common.{◌≡◌, ℕ, zero, suc, ◌≤◌, Bool, true, false, cond, List, [], ◌∷◌, ◌++◌, length, arith, refl, sym, ap, ◌∙◌, append_assoc, append-nil, Option, Some, None, slice_get, length-append, length-set, le_refl}
-use Rattle.js_value.specs.Value.{Value, Text}
+use Rattle.std.proofs.Common.{◌≡◌, ℕ, ◌≤◌, Bool, true, false, cond, List, [], ◌∷◌, ◌++◌, length, arith, refl, sym, ap, subst, ◌||◌, ◌∙◌, append_assoc, append-nil, Option, Some, None, slice_get, length-append, length-set, le_refl}
+use Rattle.std.specs.List.{list_any}
+use Rattle.std.proofs.lemmas.List.Folds.{list_any-append}
+use Rattle.js_value.specs.NumberText.{text_of_number}
+use Rattle.js_value.specs.Value.{Value, Text, same_text, Key, Index, Named, Numeral}
+use Rattle.js_value.proofs.Entries.{same_text_sym}
 use Rattle.js_value.specs.Store.{Store, Thing, AnObject, ACell, AMark, ObjectRecord, Class, Promise, PromiseState, Pending, Fulfilled, Rejected, Ordinary, Array, ScriptFunction, BuiltInFunction, ResolveFunction, RejectFunction, Error, Reaction, frozen, size, object_in, cell_in, mark_in}
 use Rattle.js_value.specs.Job.{Job}
 use Rattle.js_value.specs.declared.counts.Room.{Room}
-use Rattle.es_ops.specs.State.{World, State, plus, nothing, some_slots, some_units}
+use Rattle.es_ops.specs.State.{Heap, World, State, plus, nothing, some_slots, some_units}
 use Rattle.js_value.specs.declared.counts.Full.{Full}
-use Rattle.es_ops.specs.Ledger.{Event, Happens, Stops, charged, charged_unless, passed, written, with_thing, first_cost, with_name, name_added, name_cost, growth}
-use Rattle.es_ops.specs.InternalMethods.{Method, apply_method}
-use Rattle.es_ops.specs.Events.{reply, Deed, perform, Make, Apply, Attach, SetCell, SetMark, Settle, TakeReaction, AddReaction, Enqueue, Dequeue, AddRejection, RemoveRejection, MakeText, Write, Take, apply_outcome, settle_class, take_reaction_class, react_class, dequeue, attached}
-use Rattle.es_ops.specs.Act.{Act, Give, Throw, Halt, Turn, Ask, Do, Call, Try, Completion, NormalCompletion, ThrowCompletion, Ran, Ends, Halts, Calls, with_world, spent, happened, returned, ended, run}
-use Rattle.es_ops.specs.Laws.{Grows, IfHappens, state_of}
+use Rattle.es_ops.specs.Ledger.{Event, Happens, Stops, charged, charged_unless, passed, written, with_thing, first_cost, with_name, name_added, name_cost, growth, is_name, new_name, created}
+use Rattle.es_ops.specs.InternalMethods.{Method, DefineOwnProperty, Delete, PreventExtensions, SetPrototypeOf, Freeze, apply_method}
+use Rattle.es_ops.specs.Events.{Deed, perform, Make, Apply, Attach, SetCell, SetMark, Settle, TakeReaction, AddReaction, Enqueue, Dequeue, AddRejection, RemoveRejection, MakeText, Write, Take, make, apply, attach, set_cell, set_mark, settle, take_reaction, add_reaction, enqueue, dequeue, apply_outcome, settle_class, take_reaction_class, react_class, dequeue_from, attached}
+use Rattle.es_ops.specs.Act.{Act, Calls, run}
+use Rattle.es_ops.specs.Laws.{AreDistinct, Grows, IfHappens, state_of}
+use Rattle.es_ops.proofs.OnHeap.{lifted}
+use Rattle.es_ops.proofs.RunsKeep.{run_keeps}
 
-grows_same : (w v : World) → length w.store ≤ length v.store → v.ledger.used ≡ w.ledger.used → v.names ≡ w.names → v.ledger.room ≡ w.ledger.room → v.realm ≡ w.realm → Grows w v
+grows_same : (w v : Heap) → length w.store ≤ length v.store → v.ledger.used ≡ w.ledger.used → v.names ≡ w.names → v.ledger.room ≡ w.ledger.room → v.realm ≡ w.realm → Grows w v
 grows_same w v things used names room realm = record {
   things = things;
   slots = rw used (le_refl w.ledger.used.slots);
   units = rw used (le_refl w.ledger.used.units);
   names_used = rw used (le_refl w.ledger.used.names);
   names = ([], names ∙ sym (append-nil w.names));
+  distinct = λ d. subst AreDistinct (sym names) d;
   room = room;
   realm = realm;
 }
 
-pub grows_refl : (w : World) → Grows w w
+pub grows_refl : (w : Heap) → Grows w w
 grows_refl w = grows_same w w (le_refl (length w.store)) refl refl refl refl
 
-pub grows_trans : (u v w : World) → Grows u v → Grows v w → Grows u w
+pub grows_trans : (u v w : Heap) → Grows u v → Grows v w → Grows u w
 grows_trans u v w a b = record {
   things = omega (arith, a.things, b.things);
   slots = omega (arith, a.slots, b.slots);
   units = omega (arith, a.units, b.units);
   names_used = omega (arith, a.names_used, b.names_used);
   names = (a.names.0 ++ b.names.0, b.names.1 ∙ ap (λ l. l ++ b.names.0) a.names.1 ∙ append_assoc u.names a.names.0 b.names.0);
+  distinct = λ d. b.distinct (a.distinct d);
   room = b.room ∙ a.room;
   realm = b.realm ∙ a.realm;
 }
 
-charged_grows : {A : Type 0} (w v : World) (price : Room) (a : A) → Grows w v → IfHappens (charged price a v) (λ b u. Grows w u)
+charged_grows : {A : Type 0} (w v : Heap) (price : Room) (a : A) → Grows w v → IfHappens (charged price a v) (λ b u. Grows w u)
 charged_grows w v price a g = by_stop (passed (plus v.ledger.used price) v.ledger.room)
   where
     by_stop : (o : Option Full) → IfHappens (charged_unless o a (record v { ledger = record v.ledger { used = plus v.ledger.used price } })) (λ b u. Grows w u)
@@ -48,22 +56,24 @@ charged_grows w v price a g = by_stop (passed (plus v.ledger.used price) v.ledge
       units = omega (arith, g.units);
       names_used = omega (arith, g.names_used);
       names = g.names;
+      distinct = g.distinct;
       room = g.room;
       realm = g.realm;
     }
 
-thing_grows : (w v : World) (n : ℕ) (t : Thing) → Grows w v → Grows w (with_thing v n t)
+thing_grows : (w v : Heap) (n : ℕ) (t : Thing) → Grows w v → Grows w (with_thing v n t)
 thing_grows w v n t g = record {
   things = rw (length-set v.store n t) g.things;
   slots = g.slots;
   units = g.units;
   names_used = g.names_used;
   names = g.names;
+  distinct = g.distinct;
   room = g.room;
   realm = g.realm;
 }
 
-written_grows : {A : Type 0} (w v : World) (n : ℕ) (before after : Thing) (p : Room) (a : A) → Grows w v → IfHappens (written v n before after p a) (λ b u. Grows w u)
+written_grows : {A : Type 0} (w v : Heap) (n : ℕ) (before after : Thing) (p : Room) (a : A) → Grows w v → IfHappens (written v n before after p a) (λ b u. Grows w u)
 unfolding written
 written_grows w v n before after p a g = by_bool (frozen before)
   where
@@ -71,25 +81,67 @@ written_grows w v n before after p a g = by_bool (frozen before)
     by_bool true = g
     by_bool false = charged_grows w (with_thing v n after) (plus (first_cost v n) p) a (thing_grows w v n after g)
 
-name_grows : (w : World) (name : Option Text) → Grows w (with_name name w)
-name_grows w None = grows_refl w
-name_grows w (Some t) = record {
+-- ---- names that are added
+
+-- a name that is added is none yet
+abbrev IsNew : Heap → Option Text → Type 0
+IsNew h None = Unit {0}
+IsNew h (Some t) = is_name h t ≡ false
+
+new_name_new : (h : Heap) (key : Key) → IsNew h (new_name h key)
+new_name_new h (Index i) = tt
+new_name_new h (Named t) = by_test (is_name h t) refl
+  where
+    by_test : (b : Bool) → is_name h t ≡ b → IsNew h (cond b None (Some t))
+    by_test true e = tt
+    by_test false e = e
+new_name_new h (Numeral n) = by_test (is_name h (text_of_number n)) refl
+  where
+    by_test : (b : Bool) → is_name h (text_of_number n) ≡ b → IsNew h (cond b None (Some (text_of_number n)))
+    by_test true e = tt
+    by_test false e = e
+
+added_new : (h : Heap) (m : Method) (before after : ObjectRecord) → IsNew h (name_added h m before after)
+added_new h (DefineOwnProperty key d) before after = by_test (created before after)
+  where
+    by_test : (b : Bool) → IsNew h (cond b (new_name h key) None)
+    by_test true = new_name_new h key
+    by_test false = tt
+added_new h (Delete key) before after = tt
+added_new h PreventExtensions before after = tt
+added_new h (SetPrototypeOf v) before after = tt
+added_new h Freeze before after = tt
+
+append_distinct : (ts : List Text) (t : Text) → list_any (same_text t) ts ≡ false → AreDistinct ts → AreDistinct (ts ++ t ∷ [])
+append_distinct [] t e d = (refl, tt)
+append_distinct (u ∷ ts) t e d =
+    let apart : (same_text t u ≡ false) × (list_any (same_text t) ts ≡ false) = both_false (same_text t u) (list_any (same_text t) ts) e in
+    (list_any-append (same_text u) ts (t ∷ []) ∙ rw (d.0, same_text_sym u t, apart.0) refl, append_distinct ts t apart.1 d.1)
+  where
+    both_false : (a b : Bool) → (a || b) ≡ false → (a ≡ false) × (b ≡ false)
+    both_false true b e = absurd (cc)
+    both_false false b e = (refl, e)
+
+name_grows : (w : Heap) (name : Option Text) → IsNew w name → Grows w (with_name name w)
+name_grows w None new = grows_refl w
+name_grows w (Some t) new = record {
   things = le_refl (length w.store);
   slots = le_refl w.ledger.used.slots;
   units = le_refl w.ledger.used.units;
   names_used = le_refl w.ledger.used.names;
   names = (t ∷ [], refl);
+  distinct = λ d. append_distinct w.names t new d;
   room = refl;
   realm = refl;
 }
 
-apply_grows : (w : World) (n : ℕ) (m : Method) (before : ObjectRecord) (answer : Bool) (after : Option ObjectRecord) → IfHappens (apply_outcome w n m before answer after) (λ a v. Grows w v)
+apply_grows : (w : Heap) (n : ℕ) (m : Method) (before : ObjectRecord) (answer : Bool) (after : Option ObjectRecord) → IfHappens (apply_outcome w n m before answer after) (λ a v. Grows w v)
 apply_grows w n m before answer None = grows_refl w
 apply_grows w n m before answer (Some after) =
     let name : Option Text = name_added w m before after in
-    written_grows w (with_name name w) n (AnObject before) (AnObject after) (plus (growth before after) (name_cost m name)) answer (name_grows w name)
+    written_grows w (with_name name w) n (AnObject before) (AnObject after) (plus (growth before after) (name_cost m name)) answer (name_grows w name (added_new w m before after))
 
-settle_grows : (w : World) (n : ℕ) (state : PromiseState) (o : ObjectRecord) (c : Class) → IfHappens (settle_class w n state o c) (λ a v. Grows w v)
+settle_grows : (w : Heap) (n : ℕ) (state : PromiseState) (o : ObjectRecord) (c : Class) → IfHappens (settle_class w n state o c) (λ a v. Grows w v)
 settle_grows w n state o (Promise Pending reactions) = written_grows w w n (AnObject o) (AnObject (record o { class = Promise state reactions })) nothing (Some (length reactions)) (grows_refl w)
 settle_grows w n state o (Promise (Fulfilled v) reactions) = grows_refl w
 settle_grows w n state o (Promise (Rejected v) reactions) = grows_refl w
@@ -101,7 +153,7 @@ settle_grows w n state o (ResolveFunction p m) = grows_refl w
 settle_grows w n state o (RejectFunction p m) = grows_refl w
 settle_grows w n state o Error = grows_refl w
 
-take_grows : (w : World) (n : ℕ) (o : ObjectRecord) (c : Class) → IfHappens (take_reaction_class w n o c) (λ a v. Grows w v)
+take_grows : (w : Heap) (n : ℕ) (o : ObjectRecord) (c : Class) → IfHappens (take_reaction_class w n o c) (λ a v. Grows w v)
 take_grows w n o (Promise state (r ∷ rs)) = grows_same w _ (rw (length-set w.store n (AnObject (record o { class = Promise state rs }))) (le_refl (length w.store))) refl refl refl refl
 take_grows w n o (Promise state []) = grows_refl w
 take_grows w n o Ordinary = grows_refl w
@@ -112,7 +164,7 @@ take_grows w n o (ResolveFunction p m) = grows_refl w
 take_grows w n o (RejectFunction p m) = grows_refl w
 take_grows w n o Error = grows_refl w
 
-react_grows : (w : World) (n : ℕ) (r : Reaction) (o : ObjectRecord) (c : Class) → IfHappens (react_class w n r o c) (λ a v. Grows w v)
+react_grows : (w : Heap) (n : ℕ) (r : Reaction) (o : ObjectRecord) (c : Class) → IfHappens (react_class w n r o c) (λ a v. Grows w v)
 react_grows w n r o (Promise Pending reactions) =
     let after : ObjectRecord = record o { class = Promise Pending (reactions ++ r ∷ []) } in
     written_grows w w n (AnObject o) (AnObject after) (growth o after) tt (grows_refl w)
@@ -126,7 +178,7 @@ react_grows w n r o (ResolveFunction p m) = grows_refl w
 react_grows w n r o (RejectFunction p m) = grows_refl w
 react_grows w n r o Error = grows_refl w
 
-dequeue_grows : (jobs : List Job) (w : World) → IfHappens (dequeue jobs w) (λ a v. Grows w v)
+dequeue_grows : (jobs : List Job) (w : Heap) → IfHappens (dequeue_from jobs w) (λ a v. Grows w v)
 dequeue_grows [] w = grows_refl w
 dequeue_grows (j ∷ jobs) w = grows_same w (record w { jobs = jobs }) (le_refl (length w.store)) refl refl refl refl
 
@@ -136,66 +188,44 @@ attached_length p a (Some (ACell c)) s f = le_refl (length s)
 attached_length p a (Some (AMark b)) s f = le_refl (length s)
 attached_length p a None s f = le_refl (length s)
 
-pub perform_grows : (d : Deed) (w : World) → IfHappens (perform d w) (λ a v. Grows w v)
+pub perform_grows : (d : Deed) (w : World) → IfHappens (perform d w) (λ a v. Grows w.heap v.heap)
 unfolding perform
 perform_grows (Make t) w =
-    charged_grows w (record w { store = w.store ++ t ∷ [] }) (some_slots (size t)) (length w.store)
-    (grows_same w (record w { store = w.store ++ t ∷ [] }) (let e = length-append w.store (t ∷ []) in omega (arith, e)) refl refl refl refl)
+    lifted (λ a v. Grows w.heap v.heap) w (make t w.heap)
+    (charged_grows w.heap (record w.heap { store = w.heap.store ++ t ∷ [] }) (some_slots (size t)) (length w.heap.store)
+    (grows_same w.heap (record w.heap { store = w.heap.store ++ t ∷ [] }) (let e = length-append w.heap.store (t ∷ []) in omega (arith, e)) refl refl refl refl))
 perform_grows (Apply n m) w =
-    let before : ObjectRecord = object_in w.store n in
-    apply_grows w n m before (apply_method m w.store n before).answer (apply_method m w.store n before).written
-perform_grows (Attach f p a) w =
-    grows_same w (record w { store = attached p a (slice_get w.store f) w.store f }) (attached_length p a (slice_get w.store f) w.store f) refl refl refl refl
-perform_grows (SetCell n v) w = written_grows w w n (ACell (cell_in w.store n)) (ACell (record { value = Some v; const = (cell_in w.store n).const })) nothing tt (grows_refl w)
-perform_grows (SetMark n) w = written_grows w w n (AMark (mark_in w.store n)) (AMark true) nothing tt (grows_refl w)
-perform_grows (Settle n state) w = settle_grows w n state (object_in w.store n) (object_in w.store n).class
-perform_grows (TakeReaction n) w = take_grows w n (object_in w.store n) (object_in w.store n).class
-perform_grows (AddReaction n r) w = react_grows w n r (object_in w.store n) (object_in w.store n).class
-perform_grows (Enqueue job) w = charged_grows w (record w { jobs = w.jobs ++ job ∷ [] }) (some_slots 4) tt (grows_same w (record w { jobs = w.jobs ++ job ∷ [] }) (le_refl (length w.store)) refl refl refl refl)
-perform_grows Dequeue w = dequeue_grows w.jobs w
-perform_grows (AddRejection n) w = grows_same w _ (le_refl (length w.store)) refl refl refl refl
-perform_grows (RemoveRejection n) w = grows_same w _ (le_refl (length w.store)) refl refl refl refl
-perform_grows (MakeText units) w = charged_grows w w (some_units units) tt (grows_refl w)
-perform_grows (Write bytes) w = grows_same w _ (le_refl (length w.store)) refl refl refl refl
-perform_grows (Take line left) w = grows_same w _ (le_refl (length w.store)) refl refl refl refl
+    lifted (λ a v. Grows w.heap v.heap) w (apply n m w.heap)
+    (let before : ObjectRecord = object_in w.heap.store n in
+    apply_grows w.heap n m before (apply_method m w.heap.store n before).answer (apply_method m w.heap.store n before).written)
+perform_grows (Attach f p a) w = lifted (λ a v. Grows w.heap v.heap) w (attach f p a w.heap) (grows_same w.heap (record w.heap { store = attached p a (slice_get w.heap.store f) w.heap.store f }) (attached_length p a (slice_get w.heap.store f) w.heap.store f) refl refl refl refl)
+perform_grows (SetCell n v) w = lifted (λ a v. Grows w.heap v.heap) w (set_cell n v w.heap) (written_grows w.heap w.heap n (ACell (cell_in w.heap.store n)) (ACell (record { value = Some v; const = (cell_in w.heap.store n).const })) nothing tt (grows_refl w.heap))
+perform_grows (SetMark n) w = lifted (λ a v. Grows w.heap v.heap) w (set_mark n w.heap) (written_grows w.heap w.heap n (AMark (mark_in w.heap.store n)) (AMark true) nothing tt (grows_refl w.heap))
+perform_grows (Settle n state) w = lifted (λ a v. Grows w.heap v.heap) w (settle n state w.heap) (settle_grows w.heap n state (object_in w.heap.store n) (object_in w.heap.store n).class)
+perform_grows (TakeReaction n) w = lifted (λ a v. Grows w.heap v.heap) w (take_reaction n w.heap) (take_grows w.heap n (object_in w.heap.store n) (object_in w.heap.store n).class)
+perform_grows (AddReaction n r) w = lifted (λ a v. Grows w.heap v.heap) w (add_reaction n r w.heap) (react_grows w.heap n r (object_in w.heap.store n) (object_in w.heap.store n).class)
+perform_grows (Enqueue job) w = lifted (λ a v. Grows w.heap v.heap) w (enqueue job w.heap) (charged_grows w.heap (record w.heap { jobs = w.heap.jobs ++ job ∷ [] }) (some_slots 4) tt (grows_same w.heap (record w.heap { jobs = w.heap.jobs ++ job ∷ [] }) (le_refl (length w.heap.store)) refl refl refl refl))
+perform_grows Dequeue w = lifted (λ a v. Grows w.heap v.heap) w (dequeue w.heap) (dequeue_grows w.heap.jobs w.heap)
+perform_grows (AddRejection n) w = grows_refl w.heap
+perform_grows (RemoveRejection n) w = grows_refl w.heap
+perform_grows (MakeText units) w = lifted (λ a v. Grows w.heap v.heap) w (charged (some_units units) tt w.heap) (charged_grows w.heap w.heap (some_units units) tt (grows_refl w.heap))
+perform_grows (Write bytes) w = grows_refl w.heap
+perform_grows (Take line left) w = grows_refl w.heap
 
 -- ---- runs
 
 abbrev pub CallsGrow : Calls → Type 0
-CallsGrow c = (f this : Value) (arguments : List Value) (target : Option Value) (s : State) → Grows s.world (state_of (c f this arguments target s)).world
+CallsGrow c = (f this : Value) (arguments : List Value) (target : Option Value) (s : State) → Grows s.world.heap (state_of (c f this arguments target s)).world.heap
 
-happened_grows : {A : Type 0} (w : World) (e : Event A) (s : State) (f : A → State → Ran) → IfHappens e (λ a v. Grows w v) → Grows w s.world → ((a : A) (t : State) → Grows w t.world → Grows w (state_of (f a t)).world) → Grows w (state_of (happened e s f)).world
-happened_grows w (Happens a v) s f g h next = next a (with_world s v) g
-happened_grows w (Stops full) s f g h next = h
-
-spent_grows : (w : World) (n : ℕ) (s : State) (f : State → Ran) → Grows w s.world → ((t : State) → Grows w t.world → Grows w (state_of (f t)).world) → Grows w (state_of (spent n s f)).world
-spent_grows w zero s f g next = g
-spent_grows w (suc n) s f g next = next (record s { meter = n }) g
-
-returned_grows : (w : World) (x : Ran) (f : Value → State → Ran) → Grows w (state_of x).world → ((v : Value) (t : State) → Grows w t.world → Grows w (state_of (f v t)).world) → Grows w (state_of (returned x f)).world
-returned_grows w (Ends (NormalCompletion v) s) f g next = next v s g
-returned_grows w (Ends (ThrowCompletion v) s) f g next = g
-returned_grows w (Halts stop s) f g next = g
-
-ended_grows : (w : World) (x : Ran) (f : Completion → State → Ran) → Grows w (state_of x).world → ((c : Completion) (t : State) → Grows w t.world → Grows w (state_of (f c t)).world) → Grows w (state_of (ended x f)).world
-ended_grows w (Ends c s) f g next = next c s g
-ended_grows w (Halts stop s) f g next = g
-
--- from any world that the state has grown from
-run_grows_from : (c : Calls) → CallsGrow c → (w : World) (p : Act) (s : State) → Grows w s.world → Grows w (state_of (run c p s)).world
-unfolding run
-run_grows_from c grow w (Give v) s g = g
-run_grows_from c grow w (Throw v) s g = g
-run_grows_from c grow w (Halt stop) s g = g
-run_grows_from c grow w (Turn p) s g = spent_grows w s.meter s (run c p) g (run_grows_from c grow w p)
-run_grows_from c grow w (Ask q k) s g = run_grows_from c grow w (k (reply q s.world)) s g
-run_grows_from c grow w (Do d k) s g = happened_grows w (perform d s.world) s (λ a. run c (k a)) (from (perform d s.world) (perform_grows d s.world)) g (λ a. run_grows_from c grow w (k a))
+-- a deed on a world that has grown from a heap
+deed_grows : (h : Heap) (d : Deed) (w : World) → Grows h w.heap → IfHappens (perform d w) (λ a v. Grows h v.heap)
+deed_grows h d w g = by_event (perform d w) (perform_grows d w)
   where
-    from : {A : Type 0} (e : Event A) → IfHappens e (λ a v. Grows s.world v) → IfHappens e (λ a v. Grows w v)
-    from (Happens a v) h = grows_trans w s.world v g h
-    from (Stops full) h = tt
-run_grows_from c grow w (Call f this vs n k) s g = returned_grows w (c f this vs n s) (λ v. run c (k v)) (grows_trans w s.world _ g (grow f this vs n s)) (λ v. run_grows_from c grow w (k v))
-run_grows_from c grow w (Try f this vs n k) s g = ended_grows w (c f this vs n s) (λ v. run c (k v)) (grows_trans w s.world _ g (grow f this vs n s)) (λ v. run_grows_from c grow w (k v))
+    by_event : {A : Type 0} (e : Event World A) → IfHappens e (λ a v. Grows w.heap v.heap) → IfHappens e (λ a v. Grows h v.heap)
+    by_event (Happens a v) k = grows_trans h w.heap v.heap g k
+    by_event (Stops full) k = tt
 
-pub run_grows : (c : Calls) → CallsGrow c → (p : Act) (s : State) → Grows s.world (state_of (run c p s)).world
-run_grows c grow p s = run_grows_from c grow s.world p s (grows_refl s.world)
+pub run_grows : (c : Calls) → CallsGrow c → (p : Act) (s : State) → Grows s.world.heap (state_of (run c p s)).world.heap
+run_grows c grow p s =
+    run_keeps (λ w. Grows s.world.heap w.heap) (deed_grows s.world.heap) c
+    (λ f this vs n t g. grows_trans s.world.heap t.world.heap _ g (grow f this vs n t)) p s (grows_refl s.world.heap)

@@ -7,6 +7,7 @@ pub mod Composition
 mod ConversionRows
 mod DescriptorRows
 pub mod FrozenThings
+pub mod OnHeap
 pub mod Growth
 pub mod OwnKeys
 mod LedgerRows
@@ -14,8 +15,13 @@ pub mod Others
 pub mod Orderly
 mod ProgramRows
 mod PromiseRows
+pub mod PropertiesKeep
 pub mod Prototypes
+pub mod RunsKeep
+pub mod KindsLast
 mod Samples
+mod BootRows
+mod ModuleGraphRows
 mod StoreRows
 pub mod TwoLedgers
 mod WellFormedRows
@@ -27,9 +33,11 @@ pub mod Acting
 pub mod ReadsRelated
 pub mod WritesRelated
 pub mod JobsRelated
+pub mod Diagonal
 pub mod Stand
 pub mod MoreNames
 pub mod RunsRelated
+pub mod RecordsRelated
 pub mod RepliesRelated
 pub mod WorldsRelated
 pub mod DeedsRelated

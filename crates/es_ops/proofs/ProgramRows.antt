@@ -16,7 +16,7 @@ use Rattle.es_ops.specs.Bindings.{make_cell, initialize_cell, read_cell, write_c
 use Rattle.es_ops.specs.Conversions.{to_number, to_string, number_or_raise, number_expected, text_expected}
 use Rattle.es_ops.specs.PropertyReads.{get, get_v}
 use Rattle.es_ops.specs.PropertyWrites.{put_value, set_or_throw}
-use Rattle.es_ops.proofs.Samples.{plain, ordinary, realm_of, ample, world_with, state_in, calls, came, Came, Gave, Stopped, thing_after, computing}
+use Rattle.es_ops.proofs.Samples.{plain, ordinary, realm_of, ample, world_with, with_store, state_in, calls, came, Came, Gave, Stopped, thing_after, computing}
 
 -- ---- runs whose first writes count, and what is told of one
 
@@ -27,7 +27,7 @@ record Tally : Type 0 where
   meter : ℕ
 
 abbrev left_by : Came → State → Tally
-left_by c s = record { came = c; trace = s.world.trace; used = s.world.ledger.used; meter = s.meter }
+left_by c s = record { came = c; trace = s.world.trace; used = s.world.heap.ledger.used; meter = s.meter }
 
 abbrev tally : Ran → Tally
 tally (Ends c s) = left_by (came (Ends c s)) s
@@ -38,7 +38,7 @@ abbrev type_error : Thing
 type_error = AnObject (ordinary None ((codes "name", plain (String (codes "TypeError"))) ∷ []))
 
 abbrev over : List Thing → Room → Act → Ran
-over things room p = run calls p (state_in (record (world_with room things (costs_at_start true (realm_of things))) { store = set (realm_of things) 6 type_error }))
+over things room p = run calls p (state_in (with_store (world_with room things (costs_at_start true (realm_of things))) (set (realm_of things) 6 type_error)))
 
 abbrev slots_of : ℕ → Room
 slots_of n = record ample { slots = n }

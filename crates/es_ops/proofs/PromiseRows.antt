@@ -24,11 +24,11 @@ after : Act → World
 after p = world_after (runs p things)
 
 -- with a thenable: a job is queued, for four slots, and the promise is still pending
-thenable_jobs : (after (call_resolve_function 13 14 (Object 15))).jobs ≡ ThenableJob 13 (Object 15) (Object 16) ∷ []
+thenable_jobs : (after (call_resolve_function 13 14 (Object 15))).heap.jobs ≡ ThenableJob 13 (Object 15) (Object 16) ∷ []
 unfolding computing promise reaction things after
 thenable_jobs = refl
 
-thenable_used : (after (call_resolve_function 13 14 (Object 15))).ledger.used ≡ some_slots 4
+thenable_used : (after (call_resolve_function 13 14 (Object 15))).heap.ledger.used ≡ some_slots 4
 unfolding computing promise reaction things after
 thenable_used = refl
 
@@ -78,11 +78,11 @@ waiting_things : thing_after (runs waiting things) 13 ∷ thing_after (runs wait
 unfolding computing promise reaction things waiting
 waiting_things = refl
 
-waiting_jobs : (after waiting).jobs ≡ ThenableJob 13 (Object 15) (Object 16) ∷ []
+waiting_jobs : (after waiting).heap.jobs ≡ ThenableJob 13 (Object 15) (Object 16) ∷ []
 unfolding computing promise reaction things after waiting
 waiting_jobs = refl
 
-waiting_used : (after waiting).ledger.used ≡ some_slots 4
+waiting_used : (after waiting).heap.ledger.used ≡ some_slots 4
 unfolding computing promise reaction things after waiting
 waiting_used = refl
 
@@ -90,11 +90,11 @@ waiting_used = refl
 settled_again : Act
 settled_again = fulfil_promise 17 Null (Give Null) >>= (λ v. reject_promise 17 Undefined (Give Null))
 
-settled_once : (after settled_again).jobs ≡ FulfilJob (Object 16) 13 Null ∷ []
+settled_once : (after settled_again).heap.jobs ≡ FulfilJob (Object 16) 13 Null ∷ []
 unfolding computing promise reaction things after settled_again
 settled_once = refl
 
-settled_used : (after settled_again).ledger.used ≡ some_slots 4
+settled_used : (after settled_again).heap.ledger.used ≡ some_slots 4
 unfolding computing promise reaction things after settled_again
 settled_used = refl
 
@@ -111,7 +111,7 @@ unfolding computing promise reaction things after handled_late
 handled_rejections = refl
 
 -- a handler that isn't callable is taken as undefined, and passes the reason on
-handled_jobs : (after handled_late).jobs ≡ RejectJob Undefined 18 (Number (pos 5)) ∷ []
+handled_jobs : (after handled_late).heap.jobs ≡ RejectJob Undefined 18 (Number (pos 5)) ∷ []
 unfolding computing promise reaction things after handled_late
 handled_jobs = refl
 
@@ -120,11 +120,11 @@ unfolding computing promise reaction things handled_late
 passed_on = refl
 
 -- a reaction's derived promise is two slots, a reaction three
-then_used : (after (promise_then 13 (Object 16) Undefined (λ derived. Give (Object derived)))).ledger.used ≡ some_slots 5
+then_used : (after (promise_then 13 (Object 16) Undefined (λ derived. Give (Object derived)))).heap.ledger.used ≡ some_slots 5
 unfolding computing promise reaction things after
 then_used = refl
 
 -- a mark and two functions with two properties each
-functions_used : (after (create_resolving_functions 13 (λ mark resolve reject. Give Null))).ledger.used ≡ some_slots 13
+functions_used : (after (create_resolving_functions 13 (λ mark resolve reject. Give Null))).heap.ledger.used ≡ some_slots 13
 unfolding computing promise reaction things after
 functions_used = refl

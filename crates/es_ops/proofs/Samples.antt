@@ -58,11 +58,13 @@ ample = record { slots = 1000; units = 1000; names = 1000 }
 
 abbrev pub world_with : Room → List Thing → List ℕ → World
 world_with room things first_costs = record {
-  store = realm_of things;
-  realm = places;
-  names = codes "length" ∷ codes "a" ∷ codes "b" ∷ codes "then" ∷ [];
-  ledger = record { used = nothing; room = room; first_costs = first_costs };
-  jobs = [];
+  heap = record {
+    store = realm_of things;
+    realm = places;
+    names = codes "length" ∷ codes "a" ∷ codes "b" ∷ codes "then" ∷ [];
+    ledger = record { used = nothing; room = room; first_costs = first_costs };
+    jobs = [];
+  };
   rejections = [];
   modules = [];
   functions = [];
@@ -72,6 +74,9 @@ world_with room things first_costs = record {
 
 abbrev pub world_of : List Thing → World
 world_of things = world_with ample things []
+
+abbrev pub with_store : World → Store → World
+with_store w s = record w { heap = record w.heap { store = s } }
 
 abbrev pub state_in : World → State
 state_in w = record { world = w; meter = 100; depth = 0 }
@@ -91,7 +96,7 @@ thing_result (Some (AnObject o)) receiver s = class_result o.class receiver s
 thing_result t receiver s = Ends (NormalCompletion Undefined) s
 
 abbrev pub calls : Calls
-calls (Object f) receiver arguments target s = thing_result (slice_get s.world.store f) receiver s
+calls (Object f) receiver arguments target s = thing_result (slice_get s.world.heap.store f) receiver s
 calls f receiver arguments target s = Ends (NormalCompletion Undefined) s
 
 abbrev pub runs : Act → List Thing → Ran
@@ -113,10 +118,10 @@ world_after (Ends c s) = s.world
 world_after (Halts stop s) = s.world
 
 abbrev pub thing_after : Ran → ℕ → Option Thing
-thing_after r n = slice_get (world_after r).store n
+thing_after r n = slice_get (world_after r).heap.store n
 
 abbrev pub used_after : Ran → Room
-used_after r = (world_after r).ledger.used
+used_after r = (world_after r).heap.ledger.used
 
 -- rows that name this compute through all definitions
 unfoldable pub computing : Unit {0}

@@ -24,4 +24,4 @@ places_below : AreNumbersBelow 13 places
 places_below = (lit≤ tt, (lit≤ tt, (lit≤ tt, (lit≤ tt, (lit≤ tt, (lit≤ tt, (lit≤ tt, (lit≤ tt, (lit≤ tt, (lit≤ tt, (lit≤ tt, (lit≤ tt, (lit≤ tt, tt)))))))))))))
 
 world_well : IsWorldWellFormed (world_of [])
-world_well = record { store = realm_well; jobs = tt; rejections = tt; realm = places_below; modules = tt; not_empty = lit≤ tt }
+world_well = record { heap = record { store = realm_well; jobs = tt; realm = places_below; not_empty = lit≤ tt }; rejections = tt; modules = tt }

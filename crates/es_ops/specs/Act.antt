@@ -66,7 +66,7 @@ abbrev pub spent : ℕ → State → (State → Ran) → Ran
 spent zero s f = Halts Budget s
 spent (suc n) s f = f (record s { meter = n })
 
-abbrev pub happened : {A : Type 0} → Event A → State → (A → State → Ran) → Ran
+abbrev pub happened : {A : Type 0} → Event World A → State → (A → State → Ran) → Ran
 happened (Happens a w) s f = f a (with_world s w)
 happened (Stops full) s f = Halts (OutOf full) s
 

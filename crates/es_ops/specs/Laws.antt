@@ -1,11 +1,12 @@
 -- What the laws of acts are stated in.
 use Rattle.std.specs.Prelude.{◌≡◌, ℕ, suc, ◌≤◌, ◌<◌, Bool, false, ◌==◌, List, [], ◌∷◌, ◌++◌, length, IfSome, Option, Some, None}
-use Rattle.js_value.specs.Value.{Value, Text}
+use Rattle.std.specs.List.{list_any}
+use Rattle.js_value.specs.Value.{Value, Text, same_text}
 use Rattle.js_value.specs.Store.{Reaction}
 use Rattle.js_value.specs.Order.{IsKey}
 use Rattle.js_value.specs.WellFormed.{IsValueBelow, IfValueBelow, IfNumberBelow, AreNumbersBelow, AreValuesBelow, IsContentBelow, IsStateBelow, IsReactionBelow, IsClassBelow, IsThingBelow, IsThingOrderly, IsWellFormed}
 use Rattle.js_value.specs.Job.{Job, FulfilJob, RejectJob, ThenableJob}
-use Rattle.es_ops.specs.State.{Ledger, World, State, ModuleState, cells_of}
+use Rattle.es_ops.specs.State.{Ledger, Heap, World, State, ModuleState, cells_of}
 use Rattle.es_ops.specs.Ledger.{Event, Happens, Stops, OutOf}
 use Rattle.es_ops.specs.InternalMethods.{PropertyDescriptor, Method, DefineOwnProperty, SetPrototypeOf, SetStep, RefusesSet, CallsSetter, DefinesOn}
 use Rattle.es_ops.specs.Events.{Question, Reply, TheClass, ThePrototype, IsExtensible, TheOwnProperty, TheOwnKey, IsOnChain, TheSort, TheCell, TheMark, TheProperty, TheSetStep, TheIntrinsic, TheInput, Deed, Answer, Make, Apply, Attach, SetCell, SetMark, Settle, TakeReaction, AddReaction, Enqueue, Dequeue, AddRejection}
@@ -30,16 +31,21 @@ CallAlike R c d = (f this : Value) (arguments : List Value) (target : Option Val
 
 -- ---- what no event makes less
 
-pub record Grows (w v : World) : Type 0 where
-  pub things : length w.store ≤ length v.store
-  pub slots : w.ledger.used.slots ≤ v.ledger.used.slots
-  pub units : w.ledger.used.units ≤ v.ledger.used.units
-  pub names_used : w.ledger.used.names ≤ v.ledger.used.names
-  pub names : (more : List Text) × (v.names ≡ w.names ++ more)
-  pub room : v.ledger.room ≡ w.ledger.room
-  pub realm : v.realm ≡ w.realm
+abbrev pub AreDistinct : List Text → Type 0
+AreDistinct [] = Unit {0}
+AreDistinct (t ∷ ts) = (list_any (same_text t) ts ≡ false) × AreDistinct ts
 
-abbrev pub IfHappens : {A : Type 0} → Event A → (A → World → Type 0) → Type 0
+pub record Grows (g h : Heap) : Type 0 where
+  pub things : length g.store ≤ length h.store
+  pub slots : g.ledger.used.slots ≤ h.ledger.used.slots
+  pub units : g.ledger.used.units ≤ h.ledger.used.units
+  pub names_used : g.ledger.used.names ≤ h.ledger.used.names
+  pub names : (more : List Text) × (h.names ≡ g.names ++ more)
+  pub distinct : AreDistinct g.names → AreDistinct h.names
+  pub room : h.ledger.room ≡ g.ledger.room
+  pub realm : h.realm ≡ g.realm
+
+abbrev pub IfHappens : {W A : Type 0} → Event W A → (A → W → Type 0) → Type 0
 IfHappens (Happens a w) P = P a w
 IfHappens (Stops full) P = Unit {0}
 
@@ -50,8 +56,11 @@ state_of (Halts stop s) = s
 -- ---- two ledgers
 
 -- the same but for the ledger
+abbrev pub under : Heap → Ledger → Heap
+under h l = record h { ledger = l }
+
 abbrev pub IsAlike : World → World → Type 0
-IsAlike w v = v ≡ record w { ledger = v.ledger }
+IsAlike w v = v ≡ record w { heap = under w.heap v.heap.ledger }
 
 pub record IsAlikeState (s t : State) : Type 0 where
   pub worlds : IsAlike s.world t.world
@@ -175,26 +184,29 @@ IsActBelow m (Try f this vs target k) = IsValueBelow m f × IsValueBelow m this 
 
 -- ---- well-formed worlds: a well-formed store, and all that the world speaks of stands in it
 
+pub record IsHeapWellFormed (h : Heap) : Type 0 where
+  pub store : IsWellFormed h.store
+  pub jobs : AreJobsBelow (length h.store) h.jobs
+  pub realm : AreNumbersBelow (length h.store) h.realm
+  pub not_empty : 0 < length h.store
+
 pub record IsWorldWellFormed (w : World) : Type 0 where
-  pub store : IsWellFormed w.store
-  pub jobs : AreJobsBelow (length w.store) w.jobs
-  pub rejections : AreNumbersBelow (length w.store) w.rejections
-  pub realm : AreNumbersBelow (length w.store) w.realm
-  pub modules : AreModulesBelow (length w.store) w.modules
-  pub not_empty : 0 < length w.store
+  pub heap : IsHeapWellFormed w.heap
+  pub rejections : AreNumbersBelow (length w.heap.store) w.rejections
+  pub modules : AreModulesBelow (length w.heap.store) w.modules
 
 -- ---- runs
 
 -- a run leaves a well-formed world of no fewer things, and ends with what stands there
 abbrev pub IsRanWellFormed : ℕ → Ran → Type 0
-IsRanWellFormed m (Ends c s) = IsWorldWellFormed s.world × (m ≤ length s.world.store) × IsCompletionBelow (length s.world.store) c
+IsRanWellFormed m (Ends c s) = IsWorldWellFormed s.world × (m ≤ length s.world.heap.store) × IsCompletionBelow (length s.world.heap.store) c
 IsRanWellFormed m (Halts stop s) = IsWorldWellFormed s.world
 
 -- a way of calling does so where the function and its arguments stand
 abbrev pub CallsWell : Calls → Type 0
 CallsWell calls = (f this : Value) (arguments : List Value) (target : Option Value) (s : State) → IsWorldWellFormed s.world
-    → IsValueBelow (length s.world.store) f → IsValueBelow (length s.world.store) this → AreValuesBelow (length s.world.store) arguments → IfValueBelow (length s.world.store) target
-    → IsRanWellFormed (length s.world.store) (calls f this arguments target s)
+    → IsValueBelow (length s.world.heap.store) f → IsValueBelow (length s.world.heap.store) this → AreValuesBelow (length s.world.heap.store) arguments → IfValueBelow (length s.world.heap.store) target
+    → IsRanWellFormed (length s.world.heap.store) (calls f this arguments target s)
 
 -- ---- limits
 

@@ -18,7 +18,10 @@ pub mod Operators
 pub mod References
 pub mod Making
 pub mod HostCalls
+pub mod ModuleGraph
+pub mod Boot
 pub mod Operate
+pub mod Kinds
 pub mod Laws
 pub mod Operations
 pub mod Related

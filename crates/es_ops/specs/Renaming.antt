@@ -3,7 +3,7 @@
 use Rattle.std.specs.Prelude.{◌≡◌, ℕ, ◌<◌, ◌≤◌, List, [], ◌∷◌, length, Option, get_or, slice_get, ◌⊎◌}
 use Rattle.js_value.specs.Value.{Value}
 use Rattle.es_ops.specs.Intrinsics.{Intrinsic, place_of}
-use Rattle.es_ops.specs.State.{World, State, ModuleState, NotEvaluated, SetUp, Evaluated, Preloaded}
+use Rattle.es_ops.specs.State.{Heap, World, State, ModuleState, NotEvaluated, SetUp, Evaluated, Preloaded}
 use Rattle.es_ops.specs.Ledger.{Event, Happens, Stops}
 use Rattle.es_ops.specs.Act.{Act, Ran, Ends, Halts, Calls}
 use Rattle.es_ops.specs.Laws.{IsWorldWellFormed}
@@ -29,18 +29,21 @@ pub data BothModule (R : Naming) : ModuleState → ModuleState → Type 0 where
   BothEvaluated : {cs ds : List ℕ} → BothList R cs ds → BothModule R (Evaluated cs) (Evaluated ds)
   BothPreloaded : {cs ds : List ℕ} → BothList R cs ds → BothModule R (Preloaded cs) (Preloaded ds)
 
-pub record BothWorld (ps : Pairs) (w v : World) : Type 0 where
+pub record BothHeap (ps : Pairs) (h g : Heap) : Type 0 where
   pub one_to_one : IsOneToOne (named ps)
-  pub stand : (m n : ℕ) → named ps m n → (m < length w.store) × (n < length v.store)
-  pub things : (m n : ℕ) → named ps m n → BothOption (BothThing (named ps)) (slice_get w.store m) (slice_get v.store n)
-  pub realm : (i : Intrinsic) → named ps (get_or w.realm (place_of i) 0) (get_or v.realm (place_of i) 0)
-  pub names : w.names ≡ v.names
-  pub used : w.ledger.used ≡ v.ledger.used
-  pub room : w.ledger.room ≡ v.ledger.room
-  pub costs : (m n : ℕ) → named ps m n → get_or w.ledger.first_costs m 0 ≡ get_or v.ledger.first_costs n 0
-  pub costs_left : length w.ledger.first_costs ≤ length w.store
-  pub costs_right : length v.ledger.first_costs ≤ length v.store
-  pub jobs : BothList (BothJob (named ps)) w.jobs v.jobs
+  pub stand : (m n : ℕ) → named ps m n → (m < length h.store) × (n < length g.store)
+  pub things : (m n : ℕ) → named ps m n → BothOption (BothThing (named ps)) (slice_get h.store m) (slice_get g.store n)
+  pub realm : (i : Intrinsic) → named ps (get_or h.realm (place_of i) 0) (get_or g.realm (place_of i) 0)
+  pub names : h.names ≡ g.names
+  pub used : h.ledger.used ≡ g.ledger.used
+  pub room : h.ledger.room ≡ g.ledger.room
+  pub costs : (m n : ℕ) → named ps m n → get_or h.ledger.first_costs m 0 ≡ get_or g.ledger.first_costs n 0
+  pub costs_left : length h.ledger.first_costs ≤ length h.store
+  pub costs_right : length g.ledger.first_costs ≤ length g.store
+  pub jobs : BothList (BothJob (named ps)) h.jobs g.jobs
+
+pub record BothWorld (ps : Pairs) (w v : World) : Type 0 where
+  pub heap : BothHeap ps w.heap v.heap
   pub rejections : BothList (named ps) w.rejections v.rejections
   pub modules : BothList (BothModule (named ps)) w.modules v.modules
   pub functions : w.functions ≡ v.functions
@@ -54,10 +57,10 @@ pub record BothSides (ps : Pairs) (s t : State) : Type 0 where
   pub depth : s.depth ≡ t.depth
 
 -- both events happen, and their answers are related, or both stop alike
-abbrev pub BothEvent : {A B : Type 0} → Pairs → (Naming → A → B → Type 0) → Event A → Event B → Type 0
-BothEvent ps Answers (Happens a w) (Happens b v) = (qs : Pairs) × Extends ps qs × BothWorld qs w v × Answers (named qs) a b
-BothEvent ps Answers (Stops f) (Stops g) = f ≡ g
-BothEvent ps Answers _ _ = ⊥
+abbrev pub BothEvent : {W A B : Type 0} → (Both : Pairs → W → W → Type 0) → Pairs → (Naming → A → B → Type 0) → Event W A → Event W B → Type 0
+BothEvent Both ps Answers (Happens a w) (Happens b v) = (qs : Pairs) × Extends ps qs × Both qs w v × Answers (named qs) a b
+BothEvent Both ps Answers (Stops f) (Stops g) = f ≡ g
+BothEvent Both ps Answers _ _ = ⊥
 
 abbrev pub BothRan : Pairs → Ran → Ran → Type 0
 BothRan ps (Ends c s) (Ends d t) = (qs : Pairs) × Extends ps qs × BothSides qs s t × BothCompletion (named qs) c d

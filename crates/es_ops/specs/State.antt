@@ -1,4 +1,5 @@
--- What a run holds. Operations see and change the world; the meter and the depth belong to calls.
+-- What a run holds. Operations see and change the world: what its heap holds, and the rest. The meter and the depth belong
+-- to calls.
 use Rattle.std.specs.Prelude.{ℕ, ◌+◌, ◌-◌, ◌*◌, Bool, true, false, List, [], length, map, sum_by, Option}
 use Rattle.js_value.specs.Value.{Text}
 use Rattle.js_value.specs.Store.{Store, size}
@@ -74,12 +75,16 @@ pub record Ledger : Type 0 where
 
 -- ---- the world
 
-pub record World : Type 0 where
+-- the things with all that property operations and the steps of built-in functions see and change
+pub record Heap : Type 0 where
   pub store : Store
   pub realm : List ℕ  -- the number of each thing of the realm, in the realm's order
   pub names : List Text  -- the texts that are names, in the order in which they became so
   pub ledger : Ledger
   pub jobs : List Job  -- the first one runs first
+
+pub record World : Type 0 where
+  pub heap : Heap
   pub rejections : List ℕ  -- promises that were rejected while they had no reaction
   pub modules : List ModuleState
   pub functions : List (List FunctionSort)  -- by module and function number; no operation changes it

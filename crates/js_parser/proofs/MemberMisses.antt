@@ -295,3 +295,7 @@ class_behind_extends_cut_off = refl
 -- (class A ‸B {});
 class_expression_with_two_names : answer (token (k.Sign 2) 0 ∷ token (k.Keyword 4) 1 ∷ token (k.Name (codes "A")) 7 ∷ token (k.Name (codes "B")) 9 ∷ token (k.Sign 0) 11 ∷ token (k.Sign 1) 12 ∷ token (k.Sign 3) 13 ∷ token (k.Sign 6) 14 ∷ token k.End 15 ∷ []) ≡ Syntax 3
 class_expression_with_two_names = refl
+
+-- class A { [a‸, b]() {} }
+comma_in_a_computed_key_of_a_class : answer (token (k.Keyword 4) 0 ∷ token (k.Name (codes "A")) 6 ∷ token (k.Sign 0) 8 ∷ token (k.Sign 4) 10 ∷ token (k.Name (codes "a")) 11 ∷ token (k.Sign 7) 12 ∷ token (k.Name (codes "b")) 14 ∷ token (k.Sign 5) 15 ∷ token (k.Sign 2) 16 ∷ token (k.Sign 3) 17 ∷ token (k.Sign 0) 19 ∷ token (k.Sign 1) 20 ∷ token (k.Sign 1) 22 ∷ token k.End 23 ∷ []) ≡ Syntax 5
+comma_in_a_computed_key_of_a_class = refl

@@ -403,3 +403,15 @@ comma_in_a_statement = refl
 -- while (a‸; b) ;
 semicolon_in_a_condition : answer (token (k.Keyword 43) 0 ∷ token (k.Sign 2) 6 ∷ token (k.Name (codes "a")) 7 ∷ token (k.Sign 6) 8 ∷ token (k.Name (codes "b")) 10 ∷ token (k.Sign 3) 11 ∷ token (k.Sign 6) 13 ∷ token k.End 14 ∷ []) ≡ Syntax 3
 semicolon_in_a_condition = refl
+
+-- if (a) ; else ‸class B {}
+class_behind_else : answer (token (k.Keyword 19) 0 ∷ token (k.Sign 2) 3 ∷ token (k.Name (codes "a")) 4 ∷ token (k.Sign 3) 5 ∷ token (k.Sign 6) 7 ∷ token (k.Keyword 11) 9 ∷ token (k.Keyword 4) 14 ∷ token (k.Name (codes "B")) 20 ∷ token (k.Sign 0) 22 ∷ token (k.Sign 1) 23 ∷ token k.End 24 ∷ []) ≡ Syntax 6
+class_behind_else = refl
+
+-- for (;;) ‸let a;
+let_in_for : answer (token (k.Keyword 17) 0 ∷ token (k.Sign 2) 4 ∷ token (k.Sign 6) 5 ∷ token (k.Sign 6) 6 ∷ token (k.Sign 3) 7 ∷ token (k.Keyword 25) 9 ∷ token (k.Name (codes "a")) 13 ∷ token (k.Sign 6) 14 ∷ token k.End 15 ∷ []) ≡ Syntax 5
+let_in_for = refl
+
+-- for (const a = 1, b‸;;) ;
+second_const_without_value_in_for : answer (token (k.Keyword 17) 0 ∷ token (k.Sign 2) 4 ∷ token (k.Keyword 5) 5 ∷ token (k.Name (codes "a")) 11 ∷ token (k.Sign 38) 13 ∷ token (k.Number (pos 1)) 15 ∷ token (k.Sign 7) 16 ∷ token (k.Name (codes "b")) 18 ∷ token (k.Sign 6) 19 ∷ token (k.Sign 6) 20 ∷ token (k.Sign 3) 21 ∷ token (k.Sign 6) 23 ∷ token k.End 24 ∷ []) ≡ Syntax 8
+second_const_without_value_in_for = refl

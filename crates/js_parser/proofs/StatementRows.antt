@@ -333,6 +333,10 @@ for_of_a_function = refl
 for_of_an_in : answer (token (k.Keyword 17) 0 ∷ token (k.Sign 2) 4 ∷ token (k.Name (codes "a")) 5 ∷ token (k.Keyword 22) 7 ∷ token (k.Name (codes "b")) 10 ∷ token (k.Sign 6) 11 ∷ token (k.Sign 6) 13 ∷ token (k.Sign 3) 15 ∷ token (k.Sign 6) 17 ∷ token k.End 18 ∷ []) ≡ Parsed (t.more (t.Plain (t.For (t.HeadValue (t.In (t.Name (named_at 5 (codes "a"))) (t.Name (named_at 10 (codes "b"))))) t.absent t.absent t.Empty)) t.none)
 for_of_an_in = refl
 
+-- for (let a = b in c;;) ;
+for_of_a_value_with_in : answer (token (k.Keyword 17) 0 ∷ token (k.Sign 2) 4 ∷ token (k.Keyword 25) 5 ∷ token (k.Name (codes "a")) 9 ∷ token (k.Sign 38) 11 ∷ token (k.Name (codes "b")) 13 ∷ token (k.Keyword 22) 15 ∷ token (k.Name (codes "c")) 18 ∷ token (k.Sign 6) 19 ∷ token (k.Sign 6) 20 ∷ token (k.Sign 3) 21 ∷ token (k.Sign 6) 23 ∷ token k.End 24 ∷ []) ≡ Parsed (t.more (t.Plain (t.For (t.HeadDeclare false (t.more (t.DeclaratorOf (named_at 9 (codes "a")) (t.present (t.In (t.Name (named_at 13 (codes "b"))) (t.Name (named_at 18 (codes "c")))))) t.none)) t.absent t.absent t.Empty)) t.none)
+for_of_a_value_with_in = refl
+
 -- for (let a⏎;⏎;⏎) ;
 for_with_line_breaks : answer (token (k.Keyword 17) 0 ∷ token (k.Sign 2) 4 ∷ token (k.Keyword 25) 5 ∷ token (k.Name (codes "a")) 9 ∷ lined (k.Sign 6) 11 ∷ lined (k.Sign 6) 13 ∷ lined (k.Sign 3) 15 ∷ token (k.Sign 6) 17 ∷ token k.End 18 ∷ []) ≡ Parsed (t.more (t.Plain (t.For (t.HeadDeclare false (t.more (t.DeclaratorOf (named_at 9 (codes "a")) t.absent) t.none)) t.absent t.absent t.Empty)) t.none)
 for_with_line_breaks = refl

@@ -244,14 +244,14 @@ semicolon_is_kind = by_kind (λ word kind. t.is_semicolon (word) ≡ is ";" (of_
 pub semicolon_is : (token : Token) → t.is_semicolon (the_word token) ≡ is ";" (token)
 semicolon_is token = semicolon_is_kind token.kind
 
-goes_on_is_kind : (kind : TokenKind) → t.goes_on (word_of kind) ≡ g.goes_on (of_kind kind)
+goes_on_is_kind : (kind : TokenKind) → t.goes_on (word_of kind) ≡ g.continues_statement (of_kind kind)
 unfolding word
-goes_on_is_kind = by_kind (λ word kind. t.goes_on (word) ≡ g.goes_on (of_kind kind))
+goes_on_is_kind = by_kind (λ word kind. t.goes_on (word) ≡ g.continues_statement (of_kind kind))
     (λ text. refl) (λ value. refl) (λ text. refl) (λ text first last. refl) refl
     (refl, (refl, (refl, (refl, (refl, (refl, (refl, (refl, (refl, (refl, (refl, (refl, (refl, (refl, (refl, (refl, (refl, (refl, (refl, (refl, (refl, (refl, (refl, (refl, (refl, (refl, (refl, (refl, (refl, (refl, (refl, (refl, (refl, (refl, (refl, (refl, (refl, (refl, (refl, (refl, (refl, (refl, (refl, (refl, (refl, (refl, λ n. sym (or_false (or_false (far_any (k.Keyword (behind 46 n)) (omega arith) ("(" ∷ "[" ∷ "." ∷ "," ∷ "?" ∷ ":" ∷ "=>" ∷ []) refl) (far_any (k.Keyword (behind 46 n)) (omega arith) ("=" ∷ "+=" ∷ "-=" ∷ "*=" ∷ "/=" ∷ "%=" ∷ "**=" ∷ "<<=" ∷ ">>=" ∷ ">>>=" ∷ "&=" ∷ "|=" ∷ "^=" ∷ []) refl)) (far_any (k.Keyword (behind 46 n)) (omega arith) ("??" ∷ "||" ∷ "&&" ∷ "|" ∷ "^" ∷ "&" ∷ "==" ∷ "!=" ∷ "===" ∷ "!==" ∷ "<" ∷ ">" ∷ "<=" ∷ ">=" ∷ "in" ∷ "instanceof" ∷ "<<" ∷ ">>" ∷ ">>>" ∷ "+" ∷ "-" ∷ "*" ∷ "/" ∷ "%" ∷ "**" ∷ []) refl))))))))))))))))))))))))))))))))))))))))))))))))
     (refl, (refl, (refl, (refl, (refl, (refl, (refl, (refl, (refl, (refl, (refl, (refl, (refl, (refl, (refl, (refl, (refl, (refl, (refl, (refl, (refl, (refl, (refl, (refl, (refl, (refl, (refl, (refl, (refl, (refl, (refl, (refl, (refl, (refl, (refl, (refl, (refl, (refl, (refl, (refl, (refl, (refl, (refl, (refl, (refl, (refl, (refl, (refl, (refl, (refl, (refl, (refl, λ n. sym (or_false (or_false (far_any (k.Sign (behind 52 n)) (omega arith) ("(" ∷ "[" ∷ "." ∷ "," ∷ "?" ∷ ":" ∷ "=>" ∷ []) refl) (far_any (k.Sign (behind 52 n)) (omega arith) ("=" ∷ "+=" ∷ "-=" ∷ "*=" ∷ "/=" ∷ "%=" ∷ "**=" ∷ "<<=" ∷ ">>=" ∷ ">>>=" ∷ "&=" ∷ "|=" ∷ "^=" ∷ []) refl)) (far_any (k.Sign (behind 52 n)) (omega arith) ("??" ∷ "||" ∷ "&&" ∷ "|" ∷ "^" ∷ "&" ∷ "==" ∷ "!=" ∷ "===" ∷ "!==" ∷ "<" ∷ ">" ∷ "<=" ∷ ">=" ∷ "in" ∷ "instanceof" ∷ "<<" ∷ ">>" ∷ ">>>" ∷ "+" ∷ "-" ∷ "*" ∷ "/" ∷ "%" ∷ "**" ∷ []) refl))))))))))))))))))))))))))))))))))))))))))))))))))))))
 
-pub goes_on_is : (token : Token) → t.goes_on (the_word token) ≡ g.goes_on (token)
+pub goes_on_is : (token : Token) → t.goes_on (the_word token) ≡ g.continues_statement (token)
 goes_on_is token = goes_on_is_kind token.kind
 
 -- Where a semicolon may be missing.

@@ -1,7 +1,8 @@
 -- The two arrays of numbers lead from rows to places and back.
 use Rattle.std.proofs.Common.{get_or, sym, ◌∙◌, refl}
 use Rattle.std.proofs.lemmas.Option.{slice_get_within, slice_get-get_or}
-use Rattle.es_model.specs.Tokens.{signs, ascending_signs}
+use Rattle.es_model.specs.Tokens.{signs}
+use Rattle.es_model.specs.SignTable.{ascending_signs}
 use Rattle.es_model.proofs.Places.{place_of_row, no_place, texts_held, found_in, sign_places, sign_rows, signs-texts, signs-placed, signs-rowed}
 use Rattle.es_model.proofs.words.Words.sign.Goals as goal
 
