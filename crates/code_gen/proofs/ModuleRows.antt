@@ -127,3 +127,30 @@ function_names_in_order = refl
 function_kinds_in_order : map (λ one. one.kind) (all_functions (t.more (t.Plain (t.Declare false (t.more (t.DeclaratorOf (named_at 4 (codes "a")) (t.present (t.Function (t.FunctionOf 8 None f.Plain [] (t.BodyStatements t.none))))) (t.more (t.DeclaratorOf (named_at 24 (codes "b")) (t.present (t.Paren (t.Function (t.FunctionOf 29 None f.Arrow [] (t.BodyExpression (t.Number (pos 0)))))))) (t.more (t.DeclaratorOf (named_at 39 (codes "c")) (t.present (t.Class (t.ClassOf 43 None t.absent t.none)))) t.none))) semi.Written)) (t.more (t.Plain (t.Value (t.Assign 53 (t.Name (named_at 53 (codes "a"))) None (t.Class (t.ClassOf 57 None t.absent (t.more (t.MemberOf 65 false m.Getter (t.KeyWord (codes "e")) t.absent (t.present (t.FunctionOf 65 None f.Getter [] (t.BodyStatements t.none)))) (t.more (t.MemberOf 76 true m.Setter (t.KeyNumber (pos 7)) t.absent (t.present (t.FunctionOf 76 None f.Setter ((named_at 89 (codes "v")) ∷ []) (t.BodyStatements t.none)))) t.none))))) semi.Written)) (t.more (t.Plain (t.Value (t.Assign 98 (t.Paren (t.Name (named_at 99 (codes "b")))) None (t.Function (t.FunctionOf 104 None f.Arrow [] (t.BodyExpression (t.Number (pos 1)))))) semi.Written)) (t.more (t.Plain (t.FunctionStatement (t.FunctionOf 113 (Some (named_at 122 (codes "d"))) f.Plain [] (t.BodyStatements t.none)))) (t.more (t.Plain (t.ClassStatement (t.ClassOf 129 (Some (named_at 135 (codes "D"))) t.absent (t.more (t.MemberOf 139 false m.Method (t.KeyWord (codes "constructor")) t.absent (t.present (t.FunctionOf 139 None f.Base [] (t.BodyStatements t.none)))) t.none)))) (t.more (t.ExportDefault 165 (t.DefaultValue (t.Function (t.FunctionOf 173 None f.Arrow [] (t.BodyExpression (t.Number (pos 2)))))) semi.Written) t.none)))))) (codes "m") (functions (t.more (t.Plain (t.Declare false (t.more (t.DeclaratorOf (named_at 4 (codes "a")) (t.present (t.Function (t.FunctionOf 8 None f.Plain [] (t.BodyStatements t.none))))) (t.more (t.DeclaratorOf (named_at 24 (codes "b")) (t.present (t.Paren (t.Function (t.FunctionOf 29 None f.Arrow [] (t.BodyExpression (t.Number (pos 0)))))))) (t.more (t.DeclaratorOf (named_at 39 (codes "c")) (t.present (t.Class (t.ClassOf 43 None t.absent t.none)))) t.none))) semi.Written)) (t.more (t.Plain (t.Value (t.Assign 53 (t.Name (named_at 53 (codes "a"))) None (t.Class (t.ClassOf 57 None t.absent (t.more (t.MemberOf 65 false m.Getter (t.KeyWord (codes "e")) t.absent (t.present (t.FunctionOf 65 None f.Getter [] (t.BodyStatements t.none)))) (t.more (t.MemberOf 76 true m.Setter (t.KeyNumber (pos 7)) t.absent (t.present (t.FunctionOf 76 None f.Setter ((named_at 89 (codes "v")) ∷ []) (t.BodyStatements t.none)))) t.none))))) semi.Written)) (t.more (t.Plain (t.Value (t.Assign 98 (t.Paren (t.Name (named_at 99 (codes "b")))) None (t.Function (t.FunctionOf 104 None f.Arrow [] (t.BodyExpression (t.Number (pos 1)))))) semi.Written)) (t.more (t.Plain (t.FunctionStatement (t.FunctionOf 113 (Some (named_at 122 (codes "d"))) f.Plain [] (t.BodyStatements t.none)))) (t.more (t.Plain (t.ClassStatement (t.ClassOf 129 (Some (named_at 135 (codes "D"))) t.absent (t.more (t.MemberOf 139 false m.Method (t.KeyWord (codes "constructor")) t.absent (t.present (t.FunctionOf 139 None f.Base [] (t.BodyStatements t.none)))) t.none)))) (t.more (t.ExportDefault 165 (t.DefaultValue (t.Function (t.FunctionOf 173 None f.Arrow [] (t.BodyExpression (t.Number (pos 2)))))) semi.Written) t.none)))))))) ≡ (5 ∷ 0 ∷ 1 ∷ 3 ∷ 3 ∷ 2 ∷ 2 ∷ 1 ∷ 0 ∷ 3 ∷ 1 ∷ [])
 unfolding functions writes_constructor mentions free captured gather places captures code statement
 function_kinds_in_order = refl
+
+-- export default class { go() {} } export { a }; let a;
+default_class : coded (t.more (t.ExportDefault 7 (t.DefaultClass (t.ClassOf 15 None t.absent (t.more (t.MemberOf 23 false m.Method (t.KeyWord (codes "go")) t.absent (t.present (t.FunctionOf 23 None f.Method [] (t.BodyStatements t.none)))) t.none))) semi.Missing) (t.more (t.ExportNames ((pair_of (named_at 42 (codes "a")) (named_at 42 (codes "a"))) ∷ []) semi.Written) (t.more (t.Plain (t.Declare false (t.more (t.DeclaratorOf (named_at 51 (codes "a")) t.absent) t.none) semi.Written)) t.none))) 0 ≡ Some (record {
+  instructions = i.Class 1 ∷ i.Text 2 ∷ i.Method 2 ∷ i.Define 1 ∷ i.Pop ∷ i.OuterInit 0 ∷ i.Undefined ∷ i.OuterInit 1 ∷ i.Undefined ∷ i.Return ∷ [];
+  operands = 4;
+  handlers = [];
+})
+unfolding functions writes_constructor mentions free captured gather places captures code statement
+default_class = refl
+
+-- export default function () {} import "x"; export { b } from "y";
+default_function : coded (t.more (t.ExportDefault 7 (t.DefaultFunction (t.FunctionOf 15 None f.Plain [] (t.BodyStatements t.none))) semi.Missing) (t.more (t.Import (codes "x") [] semi.Written) (t.more (t.ExportFrom (codes "y") ((pair_of (named_at 51 (codes "b")) (named_at 51 (codes "b"))) ∷ []) semi.Written) t.none))) 0 ≡ Some (record {
+  instructions = i.Undefined ∷ i.Return ∷ [];
+  operands = 1;
+  handlers = [];
+})
+unfolding functions writes_constructor mentions free captured gather places captures code statement
+default_function = refl
+
+-- export default (function () {}); { class A { static go() { A; } } }
+default_value_and_own_class : coded (t.more (t.ExportDefault 7 (t.DefaultValue (t.Paren (t.Function (t.FunctionOf 16 None f.Plain [] (t.BodyStatements t.none))))) semi.Written) (t.more (t.Plain (t.Block (t.more (t.ClassStatement (t.ClassOf 35 (Some (named_at 41 (codes "A"))) t.absent (t.more (t.MemberOf 45 true m.Method (t.KeyWord (codes "go")) t.absent (t.present (t.FunctionOf 45 None f.Method [] (t.BodyStatements (t.more (t.Value (t.Name (named_at 59 (codes "A"))) semi.Written) t.none))))) t.none))) t.none))) t.none)) 0 ≡ Some (record {
+  instructions = i.Function 1 ∷ i.OuterInit 0 ∷ i.LocalClear 0 ∷ i.BoxConst 1 ∷ i.Class 2 ∷ i.Swap ∷ i.Text 2 ∷ i.Method 3 ∷ i.Define 1 ∷ i.Swap ∷ i.Pop ∷ i.Dup ∷ i.BoxInit 1 ∷ i.LocalPut 0 ∷ i.Undefined ∷ i.Return ∷ [];
+  operands = 4;
+  handlers = [];
+})
+unfolding functions writes_constructor mentions free captured gather places captures code statement
+default_value_and_own_class = refl
