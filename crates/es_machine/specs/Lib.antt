@@ -1,0 +1,6 @@
+pub mod ModuleCode
+pub mod Decoding
+pub mod Rows
+pub mod Frames
+pub mod Instructions
+pub mod ByteMachine
