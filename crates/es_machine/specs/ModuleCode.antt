@@ -1,6 +1,6 @@
 -- The code of modules as the machine reads it: what a container spells of each module and function. Names are numbered from 1,
 -- modules, functions, places and outer cells from 0.
-use Rattle.std.specs.Prelude.{ℕ, ◌-◌, Bool, List, [], Option, slice_get, get_or}
+use Rattle.std.specs.Prelude.{ℕ, ◌-◌, Bool, List, [], Option, Some, None, slice_get, get_or}
 use Rattle.js_value.specs.Value.{Text}
 use Rattle.es_ops.specs.State.{FunctionSort, OnlyCalled, CalledAndConstructed, OnlyConstructed}
 
