@@ -1,14 +1,14 @@
 -- Ways of calling that agree give runs that agree, for every act.
 use Rattle.std.proofs.Common.{◌≡◌, ℕ, zero, suc, refl, sym, subst}
 use Rattle.js_value.specs.Value.{Value}
-use Rattle.es_ops.specs.State.{State}
+use Rattle.es_ops.specs.State.{World, State}
 use Rattle.es_ops.specs.Ledger.{Event, Happens, Stops}
 use Rattle.es_ops.specs.Events.{reply, perform}
 use Rattle.es_ops.specs.Act.{Act, Give, Throw, Halt, Turn, Ask, Do, Call, Try, Completion, NormalCompletion, ThrowCompletion, Ran, Ends, Halts, Calls, with_world, spent, happened, returned, ended, run}
 use Rattle.es_ops.specs.Laws.{IsHidden, EndAlike, CallAlike}
 
 module _ (R : State → State → Type 0) (hidden : IsHidden R) where
-  happened_alike : {A : Type 0} (e : Event A) (s t : State) (f g : A → State → Ran) → R s t → ((a : A) (s t : State) → R s t → EndAlike R (f a s) (g a t)) → EndAlike R (happened e s f) (happened e t g)
+  happened_alike : {A : Type 0} (e : Event World A) (s t : State) (f g : A → State → Ran) → R s t → ((a : A) (s t : State) → R s t → EndAlike R (f a s) (g a t)) → EndAlike R (happened e s f) (happened e t g)
   happened_alike (Happens a w) s t f g r next = next a (with_world s w) (with_world t w) (hidden.changes s t w r)
   happened_alike (Stops full) s t f g r next = (refl, r)
 

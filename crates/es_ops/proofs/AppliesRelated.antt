@@ -1,15 +1,15 @@
--- Internal methods, and the attachment of a prototype, over two worlds; and the whole law.
+-- Internal methods, and the attachment of a prototype, over two heaps; and the whole law.
 use Rattle.std.proofs.Common.{◌≡◌, ℕ, ◌-◌, Bool, true, false, cond, not, ◌||◌, [], ◌∷◌, ◌++◌, nat_lt, refl, ap, ap₂, Option, Some, None, slice_get}
 use Rattle.js_value.specs.Value.{Text, Key, Index, Named, Numeral}
 use Rattle.js_value.specs.Store.{Thing, AnObject, ObjectRecord, Property, Content, Class, as_object, object_in}
 use Rattle.js_value.specs.Order.{IsOrderly}
-use Rattle.es_ops.specs.State.{World, State, plus, some_slots}
+use Rattle.es_ops.specs.State.{Heap, State, plus, some_slots}
 use Rattle.es_ops.specs.Ledger.{written, growth, new_name, name_price, name_added, name_cost, with_name}
 use Rattle.es_ops.specs.InternalMethods.{Method, DefineOwnProperty, Delete, PreventExtensions, SetPrototypeOf, Freeze, apply_method, refused, unchanged, wrote, set_prototype_of, same_prototype, longest}
 use Rattle.es_ops.specs.Events.{apply_outcome, attached, at_home, with_home, with_prototype, pointing_to, prototype_name}
 use Rattle.es_ops.specs.Act.{Act, Calls, run}
 use Rattle.es_ops.specs.Related.{BothOption, BothNone, BothSome, BothObject, BothContent, BothData, BothAccessor, BothProperty, BothClass, BothOrdinary, BothArray, BothScript, BothBuiltIn, BothResolve, BothReject, BothError, BothPromise, BothRecord, BothThing, BothAnObject, BothACell, BothAMark, BothMethod}
-use Rattle.es_ops.specs.Renaming.{Pairs, named, Kept, BothWorld, BothSides, BothEvent, BothRan, BothCalling}
+use Rattle.es_ops.specs.Renaming.{Pairs, named, Kept, BothHeap, BothSides, BothEvent, BothRan, BothCalling}
 use Rattle.es_ops.proofs.Parts.{same_number}
 use Rattle.es_ops.proofs.RunsRelated.{run_related}
 use Rattle.es_ops.proofs.RepliesRelated.{chain_same, object_both, own_property_both, reply_related}
@@ -19,7 +19,7 @@ use Rattle.es_ops.proofs.MethodsRelated.{BothOutcome, with_property_both, define
 
 -- ---- [[SetPrototypeOf]]
 
-module _ (ps : Pairs) (w v : World) (b : BothWorld ps w v) where
+module _ (ps : Pairs) (w v : Heap) (b : BothHeap ps w v) where
   same_prototype_same : {x y z u : Option ℕ} → BothOption (named ps) x y → BothOption (named ps) z u → same_prototype x z ≡ same_prototype y u
   same_prototype_same BothNone BothNone = refl
   same_prototype_same BothNone (BothSome s) = refl
@@ -70,18 +70,18 @@ module _ (ps : Pairs) (w v : World) (b : BothWorld ps w v) where
   cost_same Freeze Freeze t h = refl
   cost_same _ _ t h = absurd h
 
-  with_name_both : (t : Option Text) → BothWorld ps (with_name t w) (with_name t v)
+  with_name_both : (t : Option Text) → BothHeap ps (with_name t w) (with_name t v)
   with_name_both None = b
-  with_name_both (Some t) = record { one_to_one = b.one_to_one; stand = b.stand; things = b.things; realm = b.realm; names = ap (λ ns. ns ++ t ∷ []) b.names; used = b.used; room = b.room; costs = b.costs; costs_left = b.costs_left; costs_right = b.costs_right; jobs = b.jobs; rejections = b.rejections; modules = b.modules; functions = b.functions; trace = b.trace; input = b.input }
+  with_name_both (Some t) = record { one_to_one = b.one_to_one; stand = b.stand; things = b.things; realm = b.realm; names = ap (λ ns. ns ++ t ∷ []) b.names; used = b.used; room = b.room; costs = b.costs; costs_left = b.costs_left; costs_right = b.costs_right; jobs = b.jobs }
 
-  outcome_both : (m n : ℕ) (f g : Method) (o p : ObjectRecord) (x y : Bool) {i j : Option ObjectRecord} → named ps m n → BothMethod (named ps) f g → BothRecord (named ps) o p → x ≡ y → BothOption (BothRecord (named ps)) i j → BothEvent ps (λ R a b. a ≡ b) (apply_outcome w m f o x i) (apply_outcome v n g p y j)
+  outcome_both : (m n : ℕ) (f g : Method) (o p : ObjectRecord) (x y : Bool) {i j : Option ObjectRecord} → named ps m n → BothMethod (named ps) f g → BothRecord (named ps) o p → x ≡ y → BothOption (BothRecord (named ps)) i j → BothEvent BothHeap ps (λ R a b. a ≡ b) (apply_outcome w m f o x i) (apply_outcome v n g p y j)
   outcome_both m n f g o p x y r h i e BothNone = (ps, λ i j z. z, b, e)
   outcome_both m n f g o p x y r h i e (BothSome {x = k} {y = l} j) = by_name (name_added w f o k) (name_added v g p l) (added_same f g h i j)
     where
-      at : (t : Option Text) → BothEvent ps (λ R a b. a ≡ b) (written (with_name t w) m (AnObject o) (AnObject k) (plus (growth o k) (name_cost f t)) x) (written (with_name t v) n (AnObject p) (AnObject l) (plus (growth p l) (name_cost g t)) y)
+      at : (t : Option Text) → BothEvent BothHeap ps (λ R a b. a ≡ b) (written (with_name t w) m (AnObject o) (AnObject k) (plus (growth o k) (name_cost f t)) x) (written (with_name t v) n (AnObject p) (AnObject l) (plus (growth p l) (name_cost g t)) y)
       at t = written_both ps (with_name t w) (with_name t v) (with_name_both t) (λ R a b. a ≡ b) m n _ _ _ _ _ _ x y r (BothAnObject i) (BothAnObject j) (ap₂ plus (ap some_slots (ap₂ (λ a c. a - c) (object_size_same (named ps) j) (object_size_same (named ps) i))) (cost_same f g t h)) e
 
-      by_name : (t u : Option Text) → t ≡ u → BothEvent ps (λ R a b. a ≡ b) (written (with_name t w) m (AnObject o) (AnObject k) (plus (growth o k) (name_cost f t)) x) (written (with_name u v) n (AnObject p) (AnObject l) (plus (growth p l) (name_cost g u)) y)
+      by_name : (t u : Option Text) → t ≡ u → BothEvent BothHeap ps (λ R a b. a ≡ b) (written (with_name t w) m (AnObject o) (AnObject k) (plus (growth o k) (name_cost f t)) x) (written (with_name u v) n (AnObject p) (AnObject l) (plus (growth p l) (name_cost g u)) y)
       by_name t u q = rw q (at u)
 
 pub apply_related : Applies
@@ -97,7 +97,7 @@ unfolding object_in
 attach_related ps f g p q c w v r s b well = by_thing (slice_get w.store f) (slice_get v.store g) (b.things f g r) (well.store.orderly f)
   where
     Attached : Option Thing → Option Thing → Type 0
-    Attached x y = BothWorld ps (record w { store = attached p c x w.store f }) (record v { store = attached q c y v.store g })
+    Attached x y = BothHeap ps (record w { store = attached p c x w.store f }) (record v { store = attached q c y v.store g })
 
     with_both : (o u : ObjectRecord) {x y : Option Property} → BothRecord (named ps) o u → BothOption (BothProperty (named ps)) x y → BothRecord (named ps) (with_prototype p o x) (with_prototype q u y)
     with_both o u h BothNone = h

@@ -24,10 +24,10 @@ left_well : (m depth : ℕ) (r : Ran) → IsRanWellFormed m r → IsRanWellForme
 left_well m depth (Ends c s) h = h
 left_well m depth (Halts stop s) h = h
 
-entered_well : (s : State) (f : State → Ran) → IsWorldWellFormed s.world → IsRanWellFormed (length s.world.store) (f (record s { depth = suc s.depth })) → IsRanWellFormed (length s.world.store) (entered s f)
+entered_well : (s : State) (f : State → Ran) → IsWorldWellFormed s.world → IsRanWellFormed (length s.world.heap.store) (f (record s { depth = suc s.depth })) → IsRanWellFormed (length s.world.heap.store) (entered s f)
 entered_well s f h g = by_test (nat_lt s.depth most_depth)
   where
-    by_test : (b : Bool) → IsRanWellFormed (length s.world.store) (cond b (f (record s { depth = suc s.depth })) (Halts Depth s))
+    by_test : (b : Bool) → IsRanWellFormed (length s.world.heap.store) (cond b (f (record s { depth = suc s.depth })) (Halts Depth s))
     by_test true = g
     by_test false = h
 
@@ -38,14 +38,14 @@ values_below m k le (v ∷ vs) h = (value_more m k le v h.0, values_below m k le
 pub by_rules_well : (bodies : Calls) → CallsWell bodies → CallsWell (by_rules bodies)
 unfolding by_rules
 by_rules_well bodies well f this vs target s h a b c d =
-    returned_well (length s.world.store) (run bodies (may_be_called f target) s) _
-    (stands_well bodies well (may_be_called f target) s h (λ n le. may_be_called_related f f target target (value_both (length s.world.store) n le f a) (if_value_both (length s.world.store) n le target d)))
-    (λ v t w l y. spent_well t.meter t _ w (λ n. left_well (length t.world.store) t.depth _ (entered_well (record t { meter = n }) (body_of bodies f this vs target) w (body (record t { meter = n; depth = suc t.depth }) w l))))
+    returned_well (length s.world.heap.store) (run bodies (may_be_called f target) s) _
+    (stands_well bodies well (may_be_called f target) s h (λ n le. may_be_called_related f f target target (value_both (length s.world.heap.store) n le f a) (if_value_both (length s.world.heap.store) n le target d)))
+    (λ v t w l y. spent_well t.meter t _ w (λ n. left_well (length t.world.heap.store) t.depth _ (entered_well (record t { meter = n }) (body_of bodies f this vs target) w (body (record t { meter = n; depth = suc t.depth }) w l))))
   where
-    body : (t : State) → IsWorldWellFormed t.world → length s.world.store ≤ length t.world.store → IsRanWellFormed (length t.world.store) (body_of bodies f this vs target t)
+    body : (t : State) → IsWorldWellFormed t.world → length s.world.heap.store ≤ length t.world.heap.store → IsRanWellFormed (length t.world.heap.store) (body_of bodies f this vs target t)
     body t w l =
-        returned_well (length t.world.store) (run bodies (may_be_entered f target) t) _
-        (stands_well bodies well (may_be_entered f target) t w (λ n le. may_be_entered_related f f target target (value_both (length t.world.store) n le f (value_more _ _ l f a)) (if_value_both (length t.world.store) n le target (if_value_more _ _ l target d))))
+        returned_well (length t.world.heap.store) (run bodies (may_be_entered f target) t) _
+        (stands_well bodies well (may_be_entered f target) t w (λ n le. may_be_entered_related f f target target (value_both (length t.world.heap.store) n le f (value_more _ _ l f a)) (if_value_both (length t.world.heap.store) n le target (if_value_more _ _ l target d))))
         (λ v u z m y. well f this vs target u z (value_more _ _ (le_trans l m) f a) (value_more _ _ (le_trans l m) this b) (values_below _ _ (le_trans l m) vs c) (if_value_more _ _ (le_trans l m) target d))
 
 -- ---- numbers don't matter

@@ -1,13 +1,13 @@
 -- A composed act runs as its parts do, one after the other.
 use Rattle.std.proofs.Common.{◌≡◌, ℕ, zero, suc, refl}
 use Rattle.js_value.specs.Value.{Value}
-use Rattle.es_ops.specs.State.{State}
+use Rattle.es_ops.specs.State.{World, State}
 use Rattle.es_ops.specs.Ledger.{Event, Happens, Stops}
 use Rattle.es_ops.specs.Events.{reply, perform}
 use Rattle.es_ops.specs.Act.{Act, Give, Throw, Halt, Turn, Ask, Do, Call, Try, ◌>>=◌, completed, by_completion, Completion, NormalCompletion, ThrowCompletion, Ran, Ends, Halts, Calls, with_world, spent, happened, returned, ended, run}
 
 module _ (calls : Calls) where
-  happened_then : {A : Type 0} (e : Event A) (s : State) (f h : A → State → Ran) (g : Value → State → Ran) → ((a : A) (s : State) → h a s ≡ returned (f a s) g) → happened e s h ≡ returned (happened e s f) g
+  happened_then : {A : Type 0} (e : Event World A) (s : State) (f h : A → State → Ran) (g : Value → State → Ran) → ((a : A) (s : State) → h a s ≡ returned (f a s) g) → happened e s h ≡ returned (happened e s f) g
   happened_then (Happens a w) s f h g same = same a (with_world s w)
   happened_then (Stops full) s f h g same = refl
 
@@ -37,7 +37,7 @@ module _ (calls : Calls) where
 
   -- ---- with what it throws
 
-  happened_end : {A : Type 0} (e : Event A) (s : State) (f h : A → State → Ran) (g : Completion → State → Ran) → ((a : A) (s : State) → h a s ≡ ended (f a s) g) → happened e s h ≡ ended (happened e s f) g
+  happened_end : {A : Type 0} (e : Event World A) (s : State) (f h : A → State → Ran) (g : Completion → State → Ran) → ((a : A) (s : State) → h a s ≡ ended (f a s) g) → happened e s h ≡ ended (happened e s f) g
   happened_end (Happens a w) s f h g same = same a (with_world s w)
   happened_end (Stops full) s f h g same = refl
 

@@ -7,6 +7,7 @@ pub mod Composition
 mod ConversionRows
 mod DescriptorRows
 pub mod FrozenThings
+pub mod OnHeap
 pub mod Growth
 pub mod OwnKeys
 mod LedgerRows
@@ -16,6 +17,7 @@ mod ProgramRows
 mod PromiseRows
 pub mod Prototypes
 mod Samples
+mod ModuleGraphRows
 mod StoreRows
 pub mod TwoLedgers
 mod WellFormedRows

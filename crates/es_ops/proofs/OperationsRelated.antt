@@ -102,7 +102,7 @@ pub below_one : (n : ℕ) → IsOneToOne (Below n)
 below_one n = record { forth = λ a b c r s. sym r.0 ∙ s.0; back = λ a b c r s. r.0 ∙ sym s.0 }
 
 -- (a) it leaves a well-formed world of no fewer things, and ends with a value of the profile and of that world
-pub operation_stands : (c : Calls) → CallsWell c → (o : Operation) (s : State) → IsWorldWellFormed s.world → ((n : ℕ) → length s.world.store ≤ n → BothOperation (Below n) o o) → IsRanWellFormed (length s.world.store) (run c (act_of o) s)
+pub operation_stands : (c : Calls) → CallsWell c → (o : Operation) (s : State) → IsWorldWellFormed s.world → ((n : ℕ) → length s.world.heap.store ≤ n → BothOperation (Below n) o o) → IsRanWellFormed (length s.world.heap.store) (run c (act_of o) s)
 operation_stands c well o s h k = stands_well c well (act_of o) s h (λ n le. operation_related (Below n) (below_one n) (k n le))
 
 -- (b) it comes to the same over two worlds, but for the numbers of things

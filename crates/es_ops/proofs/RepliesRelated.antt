@@ -4,12 +4,12 @@ use Rattle.js_value.specs.NumberText.{text_of_number}
 use Rattle.js_value.specs.Value.{Value, same_text, Key, Index, Named, Numeral}
 use Rattle.js_value.specs.Store.{Thing, Property, Content, Class, ObjectRecord, object_in, cell_in, mark_in, as_object, as_cell, as_mark, found, strings, length_entry, own_property, own_keys}
 use Rattle.js_value.specs.Order.{FitsLength, IsOrderly}
-use Rattle.es_ops.specs.State.{World}
-use Rattle.es_ops.specs.Laws.{IsWorldWellFormed}
+use Rattle.es_ops.specs.State.{Heap}
+use Rattle.es_ops.specs.Laws.{IsHeapWellFormed}
 use Rattle.es_ops.specs.InternalMethods.{on_chain, property_from, find_property, longest, or_later, set_step, set_content, set_by_setter, set_data, set_own, set_own_content}
 use Rattle.es_ops.specs.Events.{TheClass, ThePrototype, IsExtensible, TheOwnProperty, TheOwnKey, IsOnChain, TheSort, TheCell, TheMark, TheProperty, TheSetStep, TheIntrinsic, TheInput, reply}
 use Rattle.es_ops.specs.Related.{Naming, BothOption, BothNone, BothSome, BothList, BothEmpty, BothCons, BothValue, BothUndefined, BothNull, BothBoolean, BothNumber, BothString, BothObject, BothContent, BothData, BothAccessor, BothProperty, BothEntry, BothClass, BothOrdinary, BothArray, BothScript, BothBuiltIn, BothResolve, BothReject, BothError, BothPromise, BothRecord, BothCellRecord, BothThing, BothAnObject, BothACell, BothAMark, BothSetStep, BothRefuses, BothCalls, BothDefines}
-use Rattle.es_ops.specs.Renaming.{Pairs, named, BothWorld}
+use Rattle.es_ops.specs.Renaming.{Pairs, named, BothHeap}
 use Rattle.es_ops.proofs.Parts.{same_number}
 use Rattle.es_ops.proofs.OwnKeys.{own_key_is_key}
 use Rattle.es_ops.proofs.RunsRelated.{Replies}
@@ -60,7 +60,7 @@ module _ (R : Naming) where
   own_property_both o p (Named t) f h = found_both (same_text t) (strings o) (strings p) (strings_both o p h o.class p.class f.length h.class)
   own_property_both o p (Numeral n) f h = found_both (same_text (text_of_number n)) (strings o) (strings p) (strings_both o p h o.class p.class f.length h.class)
 
-module _ (ps : Pairs) (w v : World) (b : BothWorld ps w v) where
+module _ (ps : Pairs) (w v : Heap) (b : BothHeap ps w v) where
   pub object_both : (m n : ℕ) → named ps m n → BothRecord (named ps) (object_in w.store m) (object_in v.store n)
   unfolding object_in
   object_both m n r = as_object_both (named ps) (b.things m n r)
@@ -73,14 +73,14 @@ module _ (R : Naming) where
   pub own_keys_same : (o p : ObjectRecord) → IsOrderly o → BothRecord R o p → own_keys o ≡ own_keys p
   own_keys_same o p f h = ap₂ (λ is ns. is ++ ns) (keys_same (λ i. Index i) h.indexed) (keys_same (λ t. Named t) (strings_both R o p h o.class p.class f.length h.class))
 
-module _ (ps : Pairs) (w v : World) (b : BothWorld ps w v) where
+module _ (ps : Pairs) (w v : Heap) (b : BothHeap ps w v) where
   pub chain_same : (fuel m n : ℕ) {x y : Option ℕ} → named ps m n → BothOption (named ps) x y → on_chain fuel w.store m x ≡ on_chain fuel v.store n y
   unfolding on_chain
   chain_same fuel m n r BothNone = refl
   chain_same zero m n r (BothSome s) = refl
   chain_same (suc fuel) m n r (BothSome {x = x} {y = y} s) = ap₂ (λ a c. a || c) (same_number b.one_to_one x y m n s r) (chain_same fuel m n r (object_both ps w v b x y s).prototype)
 
-module _ (ps : Pairs) (w v : World) (b : BothWorld ps w v) (well : IsWorldWellFormed w) where
+module _ (ps : Pairs) (w v : Heap) (b : BothHeap ps w v) (well : IsHeapWellFormed w) where
   property_both : (fuel : ℕ) (key : Key) (m n : Option ℕ) → BothOption (named ps) m n → BothOption (BothProperty (named ps)) (property_from fuel w.store key m) (property_from fuel v.store key n)
   unfolding property_from
   property_both zero key m n h = BothNone
@@ -130,17 +130,17 @@ module _ (ps : Pairs) (w v : World) (b : BothWorld ps w v) (well : IsWorldWellFo
 
 pub reply_related : Replies
 unfolding reply object_in cell_in mark_in find_property
-reply_related ps (TheClass m) (TheClass n) w v h b well = (object_both ps w v b m n h).class
-reply_related ps (ThePrototype m) (ThePrototype n) w v h b well = (object_both ps w v b m n h).prototype
-reply_related ps (IsExtensible m) (IsExtensible n) w v h b well = (object_both ps w v b m n h).extensible
-reply_related ps (TheOwnProperty key m) (TheOwnProperty other n) w v h b well = rw h.0 (own_property_both (named ps) _ _ other (well.store.orderly m) (object_both ps w v b m n h.1))
-reply_related ps (TheOwnKey at m) (TheOwnKey place n) w v h b well = (ap₂ (λ (i : ℕ) keys. slice_get keys i) h.0 (own_keys_same (named ps) _ _ (well.store.orderly m) (object_both ps w v b m n h.1)), own_key_is_key _ at (well.store.orderly m))
-reply_related ps (IsOnChain p m) (IsOnChain q n) w v h b well = chain_same ps w v b longest p q h.0 (object_both ps w v b m n h.1).prototype
-reply_related ps (TheCell m) (TheCell n) w v h b well = as_cell_both (named ps) (b.things m n h)
-reply_related ps (TheMark m) (TheMark n) w v h b well = as_mark_same (named ps) (b.things m n h)
-reply_related ps (TheProperty key m) (TheProperty other n) w v h b well = rw h.0 (property_both ps w v b well longest other (Some m) (Some n) (BothSome h.1))
-reply_related ps (TheSetStep key x t p) (TheSetStep other y u q) w v h b well = rw h.0 (step_both ps w v b well other x y t u p q h.1 h.2 h.3)
-reply_related ps (TheIntrinsic i) (TheIntrinsic j) w v h b well = rw h (b.realm j)
+reply_related ps (TheClass m) (TheClass n) w v h b well = (object_both ps w.heap v.heap b.heap m n h).class
+reply_related ps (ThePrototype m) (ThePrototype n) w v h b well = (object_both ps w.heap v.heap b.heap m n h).prototype
+reply_related ps (IsExtensible m) (IsExtensible n) w v h b well = (object_both ps w.heap v.heap b.heap m n h).extensible
+reply_related ps (TheOwnProperty key m) (TheOwnProperty other n) w v h b well = rw h.0 (own_property_both (named ps) _ _ other (well.heap.store.orderly m) (object_both ps w.heap v.heap b.heap m n h.1))
+reply_related ps (TheOwnKey at m) (TheOwnKey place n) w v h b well = (ap₂ (λ (i : ℕ) keys. slice_get keys i) h.0 (own_keys_same (named ps) _ _ (well.heap.store.orderly m) (object_both ps w.heap v.heap b.heap m n h.1)), own_key_is_key _ at (well.heap.store.orderly m))
+reply_related ps (IsOnChain p m) (IsOnChain q n) w v h b well = chain_same ps w.heap v.heap b.heap longest p q h.0 (object_both ps w.heap v.heap b.heap m n h.1).prototype
+reply_related ps (TheCell m) (TheCell n) w v h b well = as_cell_both (named ps) (b.heap.things m n h)
+reply_related ps (TheMark m) (TheMark n) w v h b well = as_mark_same (named ps) (b.heap.things m n h)
+reply_related ps (TheProperty key m) (TheProperty other n) w v h b well = rw h.0 (property_both ps w.heap v.heap b.heap well.heap longest other (Some m) (Some n) (BothSome h.1))
+reply_related ps (TheSetStep key x t p) (TheSetStep other y u q) w v h b well = rw h.0 (step_both ps w.heap v.heap b.heap well.heap other x y t u p q h.1 h.2 h.3)
+reply_related ps (TheIntrinsic i) (TheIntrinsic j) w v h b well = rw h (b.heap.realm j)
 reply_related ps (TheSort x f) (TheSort y g) w v h b well = rw (h.0, h.1, b.functions) refl
 reply_related ps TheInput TheInput w v h b well = b.input
 reply_related ps _ _ w v h b well = absurd h

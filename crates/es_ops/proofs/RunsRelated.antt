@@ -17,7 +17,7 @@ abbrev pub Replies : Type 0
 Replies = (ps : Pairs) (q p : Question) (w v : World) → BothQuestion (named ps) q p → BothWorld ps w v → IsWorldWellFormed w → BothReply (named ps) q p (reply q w) (reply p v)
 
 abbrev pub Performs : Type 0
-Performs = (ps : Pairs) (d e : Deed) (w v : World) → BothDeed (named ps) d e → BothWorld ps w v → IsWorldWellFormed w → BothEvent ps (λ R. BothAnswer R d e) (perform d w) (perform e v)
+Performs = (ps : Pairs) (d e : Deed) (w v : World) → BothDeed (named ps) d e → BothWorld ps w v → IsWorldWellFormed w → BothEvent BothWorld ps (λ R. BothAnswer R d e) (perform d w) (perform e v)
 
 same : (ps : Pairs) → Extends ps ps
 same ps m n h = h
@@ -35,7 +35,7 @@ spent_both ps m n s t f g e h next = rw e (by_meter n)
     by_meter zero = (refl, (ps, same ps, h))
     by_meter (suc k) = next k
 
-happened_both : {A B : Type 0} (ps : Pairs) (Answers : Naming → A → B → Type 0) (x : Event A) (y : Event B) (s t : State) (f : A → State → Ran) (g : B → State → Ran) → BothEvent ps Answers x y → IfHappens x (λ a w. IsWorldWellFormed w) → BothSides ps s t
+happened_both : {A B : Type 0} (ps : Pairs) (Answers : Naming → A → B → Type 0) (x : Event World A) (y : Event World B) (s t : State) (f : A → State → Ran) (g : B → State → Ran) → BothEvent BothWorld ps Answers x y → IfHappens x (λ a w. IsWorldWellFormed w) → BothSides ps s t
     → ((qs : Pairs) (a : A) (b : B) (w v : World) → Extends ps qs → Answers (named qs) a b → BothWorld qs w v → IsWorldWellFormed w → BothRan qs (f a (with_world s w)) (g b (with_world t v))) → BothRan ps (happened x s f) (happened y t g)
 happened_both ps Answers (Happens a w) (Happens b v) s t f g h i k next = further ps h.0 (f a (with_world s w)) (g b (with_world t v)) h.1 (next h.0 a b w v h.1 h.3 h.2 i)
 happened_both ps Answers (Stops x) (Stops y) s t f g h i k next = (ap OutOf h, (ps, same ps, k))
@@ -59,31 +59,31 @@ returned_both ps (Ends c s) (Halts y t) f g h next = absurd h
 returned_both ps (Halts x s) (Ends d t) f g h next = absurd h
 
 performed_well : (ps : Pairs) (d e : Deed) (w v : World) → BothDeed (named ps) d e → BothWorld ps w v → IsWorldWellFormed w → IfHappens (perform d w) (λ a u. IsWorldWellFormed u)
-performed_well ps d e w v h b well = by_event (perform d w) (perform_well d w well (deed_left (named ps) (length w.store) (λ m n r. (b.stand m n r).0) d e h))
+performed_well ps d e w v h b well = by_event (perform d w) (perform_well d w well (deed_left (named ps) (length w.heap.store) (λ m n r. (b.heap.stand m n r).0) d e h))
   where
-    by_event : (x : Event (Answer d)) → IfHappens x (λ a u. IsWorldWellFormed u × IsAnswerBelow (length u.store) d a) → IfHappens x (λ a u. IsWorldWellFormed u)
+    by_event : (x : Event World (Answer d)) → IfHappens x (λ a u. IsWorldWellFormed u × IsAnswerBelow (length u.heap.store) d a) → IfHappens x (λ a u. IsWorldWellFormed u)
     by_event (Happens a u) h = h.0
     by_event (Stops full) h = tt
 
 pub run_related : Replies → Performs → (c d : Calls) → BothCalling c d → (ps : Pairs) (a b : Act) (s t : State) → Kept ps a b → BothSides ps s t → BothRan ps (run c a s) (run d b t)
 unfolding run
-run_related rs es c d calls ps (Give v) (Give w) s t k h = (ps, same ps, h, BothNormal (shape_of (k ps (same ps) h.world.one_to_one)))
-run_related rs es c d calls ps (Throw v) (Throw w) s t k h = (ps, same ps, h, BothThrow (shape_of (k ps (same ps) h.world.one_to_one)))
-run_related rs es c d calls ps (Halt x) (Halt y) s t k h = (shape_of (k ps (same ps) h.world.one_to_one), (ps, same ps, h))
+run_related rs es c d calls ps (Give v) (Give w) s t k h = (ps, same ps, h, BothNormal (shape_of (k ps (same ps) h.world.heap.one_to_one)))
+run_related rs es c d calls ps (Throw v) (Throw w) s t k h = (ps, same ps, h, BothThrow (shape_of (k ps (same ps) h.world.heap.one_to_one)))
+run_related rs es c d calls ps (Halt x) (Halt y) s t k h = (shape_of (k ps (same ps) h.world.heap.one_to_one), (ps, same ps, h))
 run_related rs es c d calls ps (Turn a) (Turn b) s t k h =
     spent_both ps s.meter t.meter s t (run c a) (run d b) h.meter h (λ n. run_related rs es c d calls ps a b (record s { meter = n }) (record t { meter = n }) (λ qs e o. shape_of (k qs e o)) (record { world = h.world; well = h.well; meter = refl; depth = h.depth }))
 run_related rs es c d calls ps (Ask q f) (Ask p g) s t k h =
-    let e = rs ps q p s.world t.world (shape_of (k ps (same ps) h.world.one_to_one)).0 h.world h.well in
+    let e = rs ps q p s.world t.world (shape_of (k ps (same ps) h.world.heap.one_to_one)).0 h.world h.well in
     run_related rs es c d calls ps (f (reply q s.world)) (g (reply p t.world)) s t (λ qs x o. (shape_of (k qs x o)).1 _ _ (reply_more (named ps) (named qs) x q p _ _ e)) h
 run_related rs es c d calls ps (Do x f) (Do y g) s t k h =
-    happened_both ps (λ R. BothAnswer R x y) (perform x s.world) (perform y t.world) s t (λ a. run c (f a)) (λ b. run d (g b)) (es ps x y s.world t.world (shape_of (k ps (same ps) h.world.one_to_one)).0 h.world h.well) (performed_well ps x y s.world t.world (shape_of (k ps (same ps) h.world.one_to_one)).0 h.world h.well) h
+    happened_both ps (λ R. BothAnswer R x y) (perform x s.world) (perform y t.world) s t (λ a. run c (f a)) (λ b. run d (g b)) (es ps x y s.world t.world (shape_of (k ps (same ps) h.world.heap.one_to_one)).0 h.world h.well) (performed_well ps x y s.world t.world (shape_of (k ps (same ps) h.world.heap.one_to_one)).0 h.world h.well) h
     (λ qs a b w v e r u i. run_related rs es c d calls qs (f a) (g b) (with_world s w) (with_world t v) (λ os l o. (shape_of (k os (λ m n z. l m n (e m n z)) o)).1 a b (answer_more (named qs) (named os) l x y a b r)) (record { world = u; well = i; meter = h.meter; depth = h.depth }))
 run_related rs es c d calls ps (Call f i vs x a) (Call g j ws y b) s t k h =
-    let o = shape_of (k ps (same ps) h.world.one_to_one) in
+    let o = shape_of (k ps (same ps) h.world.heap.one_to_one) in
     returned_both ps (c f i vs x s) (d g j ws y t) (λ v. run c (a v)) (λ w. run d (b w)) (calls ps f g i j vs ws x y s t o.0 o.1 o.2 o.3 h)
     (λ qs v w s t e r u. run_related rs es c d calls qs (a v) (b w) s t (λ os l o. (shape_of (k os (λ m n z. l m n (e m n z)) o)).4 v w (value_more (named qs) (named os) l v w r)) u)
 run_related rs es c d calls ps (Try f i vs x a) (Try g j ws y b) s t k h =
-    let o = shape_of (k ps (same ps) h.world.one_to_one) in
+    let o = shape_of (k ps (same ps) h.world.heap.one_to_one) in
     ended_both ps (c f i vs x s) (d g j ws y t) (λ v. run c (a v)) (λ w. run d (b w)) (calls ps f g i j vs ws x y s t o.0 o.1 o.2 o.3 h)
     (λ qs v w s t e r u. run_related rs es c d calls qs (a v) (b w) s t (λ os l o. (shape_of (k os (λ m n z. l m n (e m n z)) o)).4 v w (completion_more (named qs) (named os) l v w r)) u)
-run_related rs es c d calls ps _ _ s t k h = absurd (shape_of (k ps (same ps) h.world.one_to_one))
+run_related rs es c d calls ps _ _ s t k h = absurd (shape_of (k ps (same ps) h.world.heap.one_to_one))

@@ -75,7 +75,7 @@ joined ps (Halts x s) (Ends d t) y h g = absurd h
 
 -- the other world with the ledger of the first, carried over
 abbrev pub under : Pairs → State → State → State
-under ps s t = record t { world = record t.world { ledger = record { used = s.world.ledger.used; room = s.world.ledger.room; first_costs = costs_for ps s.world.ledger.first_costs (length t.world.store) } } }
+under ps s t = record t { world = record t.world { heap = record t.world.heap { ledger = record { used = s.world.heap.ledger.used; room = s.world.heap.ledger.room; first_costs = costs_for ps s.world.heap.ledger.first_costs (length t.world.heap.store) } } } }
 
 -- two states that are the same but for numbers and ledgers
 abbrev pub BothButLedgers : Pairs → State → State → Type 0

@@ -261,5 +261,5 @@ stands_below m (Try f t vs x k) h =
     let s = shape_of (h m (le_refl m)) in
     (value_left (Below m) m (λ a b r. r.1) f f s.0, value_left (Below m) m (λ a b r. r.1) t t s.1, values_left (Below m) m (λ a b r. r.1) vs vs s.2, if_value_left (Below m) m (λ a b r. r.1) x x s.3, λ n le c b. stands_below n (k c) (λ i l. (shape_of (h i (le_trans le l))).4 c c (completion_both n i l c b)))
 
-pub stands_well : (c : Calls) → CallsWell c → (a : Act) (s : State) → IsWorldWellFormed s.world → Stands (length s.world.store) a → IsRanWellFormed (length s.world.store) (run c a s)
-stands_well c well a s h b = run_well c well a s h (stands_below (length s.world.store) a b)
+pub stands_well : (c : Calls) → CallsWell c → (a : Act) (s : State) → IsWorldWellFormed s.world → Stands (length s.world.heap.store) a → IsRanWellFormed (length s.world.heap.store) (run c a s)
+stands_well c well a s h b = run_well c well a s h (stands_below (length s.world.heap.store) a b)

@@ -77,20 +77,20 @@ intrinsic_below m at [] l h = l
 intrinsic_below m zero (n ∷ ns) l h = h.0
 intrinsic_below m (suc at) (n ∷ ns) l h = intrinsic_below m at ns l h.1
 
-pub reply_well : (q : Question) (w : World) → IsWorldWellFormed w → IsQuestionBelow (length w.store) q → IsReplyBelow (length w.store) q (reply q w)
+pub reply_well : (q : Question) (w : World) → IsWorldWellFormed w → IsQuestionBelow (length w.heap.store) q → IsReplyBelow (length w.heap.store) q (reply q w)
 unfolding reply find_property
-reply_well (TheClass n) w h b = (h.store.objects n).class
-reply_well (ThePrototype n) w h b = (h.store.objects n).prototype
+reply_well (TheClass n) w h b = (h.heap.store.objects n).class
+reply_well (ThePrototype n) w h b = (h.heap.store.objects n).prototype
 reply_well (IsExtensible n) w h b = tt
-reply_well (TheOwnProperty key n) w h b = own_property_below (length w.store) (object_in w.store n) key (h.store.orderly n) (h.store.objects n)
-reply_well (TheOwnKey place n) w h b = own_key_is_key (object_in w.store n) place (h.store.orderly n)
+reply_well (TheOwnProperty key n) w h b = own_property_below (length w.heap.store) (object_in w.heap.store n) key (h.heap.store.orderly n) (h.heap.store.objects n)
+reply_well (TheOwnKey place n) w h b = own_key_is_key (object_in w.heap.store n) place (h.heap.store.orderly n)
 reply_well (IsOnChain p n) w h b = tt
-reply_well (TheCell n) w h b = h.store.cells n
+reply_well (TheCell n) w h b = h.heap.store.cells n
 reply_well (TheMark n) w h b = tt
-reply_well (TheProperty key n) w h b = property_below longest w.store key (Some n) h.store
-reply_well (TheSetStep key v receiver found) w h b = step_below w.store key v receiver found (length w.store) b.0 b.1 b.2
+reply_well (TheProperty key n) w h b = property_below longest w.heap.store key (Some n) h.heap.store
+reply_well (TheSetStep key v receiver found) w h b = step_below w.heap.store key v receiver found (length w.heap.store) b.0 b.1 b.2
 reply_well (TheSort x f) w h b = tt
-reply_well (TheIntrinsic i) w h b = intrinsic_below (length w.store) (place_of i) w.realm h.not_empty h.realm
+reply_well (TheIntrinsic i) w h b = intrinsic_below (length w.heap.store) (place_of i) w.heap.realm h.heap.not_empty h.heap.realm
 reply_well TheInput w h b = tt
 
 -- ---- runs
@@ -99,37 +99,37 @@ pub ran_more : (m k : ℕ) (r : Ran) → m ≤ k → IsRanWellFormed k r → IsR
 ran_more m k (Ends c s) l h = (h.0, omega (arith, h.1), h.2)
 ran_more m k (Halts stop s) l h = h
 
-pub spent_well : (n : ℕ) (s : State) (f : State → Ran) → IsWorldWellFormed s.world → ((n : ℕ) → IsRanWellFormed (length s.world.store) (f (record s { meter = n }))) → IsRanWellFormed (length s.world.store) (spent n s f)
+pub spent_well : (n : ℕ) (s : State) (f : State → Ran) → IsWorldWellFormed s.world → ((n : ℕ) → IsRanWellFormed (length s.world.heap.store) (f (record s { meter = n }))) → IsRanWellFormed (length s.world.heap.store) (spent n s f)
 spent_well zero s f h next = h
 spent_well (suc n) s f h next = next n
 
-happened_well : {A : Type 0} (e : Event A) (s : State) (f : A → State → Ran) (B : ℕ → A → Type 0) → IsWorldWellFormed s.world → IfHappens e (λ a v. Grows s.world v) → IfHappens e (λ a v. IsWorldWellFormed v × B (length v.store) a)
-    → ((a : A) (v : World) → IsWorldWellFormed v → length s.world.store ≤ length v.store → B (length v.store) a → IsRanWellFormed (length v.store) (f a (with_world s v))) → IsRanWellFormed (length s.world.store) (happened e s f)
-happened_well (Happens a v) s f B h g w next = ran_more (length s.world.store) (length v.store) (f a (with_world s v)) g.things (next a v w.0 g.things w.1)
+happened_well : {A : Type 0} (e : Event World A) (s : State) (f : A → State → Ran) (B : ℕ → A → Type 0) → IsWorldWellFormed s.world → IfHappens e (λ a v. Grows s.world.heap v.heap) → IfHappens e (λ a v. IsWorldWellFormed v × B (length v.heap.store) a)
+    → ((a : A) (v : World) → IsWorldWellFormed v → length s.world.heap.store ≤ length v.heap.store → B (length v.heap.store) a → IsRanWellFormed (length v.heap.store) (f a (with_world s v))) → IsRanWellFormed (length s.world.heap.store) (happened e s f)
+happened_well (Happens a v) s f B h g w next = ran_more (length s.world.heap.store) (length v.heap.store) (f a (with_world s v)) g.things (next a v w.0 g.things w.1)
 happened_well (Stops full) s f B h g w next = h
 
-pub returned_well : (m : ℕ) (x : Ran) (f : Value → State → Ran) → IsRanWellFormed m x → ((v : Value) (t : State) → IsWorldWellFormed t.world → m ≤ length t.world.store → IsValueBelow (length t.world.store) v → IsRanWellFormed (length t.world.store) (f v t)) → IsRanWellFormed m (returned x f)
-returned_well m (Ends (NormalCompletion v) s) f h next = ran_more m (length s.world.store) (f v s) h.1 (next v s h.0 h.1 h.2)
+pub returned_well : (m : ℕ) (x : Ran) (f : Value → State → Ran) → IsRanWellFormed m x → ((v : Value) (t : State) → IsWorldWellFormed t.world → m ≤ length t.world.heap.store → IsValueBelow (length t.world.heap.store) v → IsRanWellFormed (length t.world.heap.store) (f v t)) → IsRanWellFormed m (returned x f)
+returned_well m (Ends (NormalCompletion v) s) f h next = ran_more m (length s.world.heap.store) (f v s) h.1 (next v s h.0 h.1 h.2)
 returned_well m (Ends (ThrowCompletion v) s) f h next = h
 returned_well m (Halts stop s) f h next = h
 
-ended_well : (m : ℕ) (x : Ran) (f : Completion → State → Ran) → IsRanWellFormed m x → ((c : Completion) (t : State) → IsWorldWellFormed t.world → m ≤ length t.world.store → IsCompletionBelow (length t.world.store) c → IsRanWellFormed (length t.world.store) (f c t)) → IsRanWellFormed m (ended x f)
-ended_well m (Ends c s) f h next = ran_more m (length s.world.store) (f c s) h.1 (next c s h.0 h.1 h.2)
+ended_well : (m : ℕ) (x : Ran) (f : Completion → State → Ran) → IsRanWellFormed m x → ((c : Completion) (t : State) → IsWorldWellFormed t.world → m ≤ length t.world.heap.store → IsCompletionBelow (length t.world.heap.store) c → IsRanWellFormed (length t.world.heap.store) (f c t)) → IsRanWellFormed m (ended x f)
+ended_well m (Ends c s) f h next = ran_more m (length s.world.heap.store) (f c s) h.1 (next c s h.0 h.1 h.2)
 ended_well m (Halts stop s) f h next = h
 
-pub run_well : (c : Calls) → CallsWell c → (p : Act) (s : State) → IsWorldWellFormed s.world → IsActBelow (length s.world.store) p → IsRanWellFormed (length s.world.store) (run c p s)
+pub run_well : (c : Calls) → CallsWell c → (p : Act) (s : State) → IsWorldWellFormed s.world → IsActBelow (length s.world.heap.store) p → IsRanWellFormed (length s.world.heap.store) (run c p s)
 unfolding run
-run_well c well (Give v) s h b = (h, le_refl (length s.world.store), b)
-run_well c well (Throw v) s h b = (h, le_refl (length s.world.store), b)
+run_well c well (Give v) s h b = (h, le_refl (length s.world.heap.store), b)
+run_well c well (Throw v) s h b = (h, le_refl (length s.world.heap.store), b)
 run_well c well (Halt stop) s h b = h
 run_well c well (Turn p) s h b = spent_well s.meter s (run c p) h (λ n. run_well c well p (record s { meter = n }) h b)
-run_well c well (Ask q k) s h b = run_well c well (k (reply q s.world)) s h (b.1 (length s.world.store) (le_refl (length s.world.store)) (reply q s.world) (reply_well q s.world h b.0))
+run_well c well (Ask q k) s h b = run_well c well (k (reply q s.world)) s h (b.1 (length s.world.heap.store) (le_refl (length s.world.heap.store)) (reply q s.world) (reply_well q s.world h b.0))
 run_well c well (Do d k) s h b =
     happened_well (perform d s.world) s (λ a. run c (k a)) (λ n a. IsAnswerBelow n d a) h (perform_grows d s.world) (perform_well d s.world h b.0)
-    (λ a v w l y. run_well c well (k a) (with_world s v) w (b.1 (length v.store) l a y))
+    (λ a v w l y. run_well c well (k a) (with_world s v) w (b.1 (length v.heap.store) l a y))
 run_well c well (Call f this vs target k) s h b =
-    returned_well (length s.world.store) (c f this vs target s) (λ v. run c (k v)) (well f this vs target s h b.0 b.1 b.2 b.3)
-    (λ v t w l y. run_well c well (k v) t w (b.4 (length t.world.store) l v y))
+    returned_well (length s.world.heap.store) (c f this vs target s) (λ v. run c (k v)) (well f this vs target s h b.0 b.1 b.2 b.3)
+    (λ v t w l y. run_well c well (k v) t w (b.4 (length t.world.heap.store) l v y))
 run_well c well (Try f this vs target k) s h b =
-    ended_well (length s.world.store) (c f this vs target s) (λ v. run c (k v)) (well f this vs target s h b.0 b.1 b.2 b.3)
-    (λ v t w l y. run_well c well (k v) t w (b.4 (length t.world.store) l v y))
+    ended_well (length s.world.heap.store) (c f this vs target s) (λ v. run c (k v)) (well f this vs target s h b.0 b.1 b.2 b.3)
+    (λ v t w l y. run_well c well (k v) t w (b.4 (length t.world.heap.store) l v y))

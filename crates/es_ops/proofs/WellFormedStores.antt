@@ -9,12 +9,13 @@ use Rattle.js_value.proofs.Below.{value_more, object_more, if_value_more, number
 use Rattle.js_value.proofs.Profile.{string_tested}
 use Rattle.js_value.specs.Job.{Job, FulfilJob, RejectJob, ThenableJob}
 use Rattle.js_value.specs.declared.counts.Room.{Room}
-use Rattle.es_ops.specs.State.{World, Ledger, plus, nothing, some_slots, some_units, ModuleState, cells_of}
+use Rattle.es_ops.specs.State.{Heap, World, Ledger, plus, nothing, some_slots, some_units, ModuleState, cells_of}
 use Rattle.js_value.specs.declared.counts.Full.{Full}
-use Rattle.es_ops.specs.Ledger.{Happens, charged, charged_unless, passed, written, with_thing, first_cost, with_name, name_added, name_cost, growth}
+use Rattle.es_ops.specs.Ledger.{Event, Happens, Stops, charged, charged_unless, passed, written, with_thing, first_cost, with_name, name_added, name_cost, growth}
 use Rattle.es_ops.specs.InternalMethods.{Method, DefineOwnProperty, Delete, PreventExtensions, SetPrototypeOf, Freeze, apply_method, set_prototype_of, same_prototype, on_chain, longest, refused, unchanged, wrote, prevent_extensions, freeze}
-use Rattle.es_ops.specs.Events.{Deed, perform, Make, Apply, Attach, SetCell, SetMark, Settle, TakeReaction, AddReaction, Enqueue, Dequeue, AddRejection, RemoveRejection, MakeText, Write, Take, apply_outcome, settle_class, take_reaction_class, react_class, dequeue, attached, at_home, with_home, with_prototype, pointing_to, prototype_name}
-use Rattle.es_ops.specs.Laws.{IfHappens, IsMethodBelow, IsDeedBelow, IsJobBelow, AreJobsBelow, AreModulesBelow, IsAnswerBelow, IsReactionAnswerBelow, IsJobAnswerBelow, IsWorldWellFormed}
+use Rattle.es_ops.specs.Events.{Deed, perform, Make, Apply, Attach, SetCell, SetMark, Settle, TakeReaction, AddReaction, Enqueue, Dequeue, AddRejection, RemoveRejection, MakeText, Write, Take, make, apply, attach, set_cell, set_mark, settle, take_reaction, add_reaction, enqueue, dequeue, apply_outcome, settle_class, take_reaction_class, react_class, dequeue_from, attached, at_home, with_home, with_prototype, pointing_to, prototype_name, with_rest}
+use Rattle.es_ops.specs.Laws.{IfHappens, Grows, IsMethodBelow, IsDeedBelow, IsJobBelow, AreJobsBelow, AreModulesBelow, IsAnswerBelow, IsReactionAnswerBelow, IsJobAnswerBelow, IsHeapWellFormed, IsWorldWellFormed}
+use Rattle.es_ops.proofs.Growth.{perform_grows}
 use Rattle.es_ops.proofs.Chains.{set_keeps, append_keeps, set_chain, append_chain, prototype_chain, cut_chain}
 use Rattle.es_ops.proofs.Prototypes.{define_prototype, delete_prototype, with_property_prototype}
 use Rattle.es_ops.proofs.Closed.{method_below, own_property_below, with_property_below}
@@ -68,7 +69,7 @@ append_well s t h o b =
       chains = append_chain s t (λ n. (h.objects n).prototype) h.chains (object_below_of (length s) t b).prototype;
     }
 
--- ---- worlds
+-- ---- heaps
 
 jobs_more : (m k : ℕ) → m ≤ k → (jobs : List Job) → AreJobsBelow m jobs → AreJobsBelow k jobs
 jobs_more m k le [] h = tt
@@ -83,21 +84,19 @@ modules_more : (m k : ℕ) → m ≤ k → (ms : List ModuleState) → AreModule
 modules_more m k le [] h = tt
 modules_more m k le (s ∷ ms) h = (numbers_more m k le (cells_of s) h.0, modules_more m k le ms h.1)
 
-ledger_well : (w : World) (l : Ledger) → IsWorldWellFormed w → IsWorldWellFormed (record w { ledger = l })
-ledger_well w l h = record { store = h.store; jobs = h.jobs; rejections = h.rejections; realm = h.realm; modules = h.modules; not_empty = h.not_empty }
+ledger_well : (w : Heap) (l : Ledger) → IsHeapWellFormed w → IsHeapWellFormed (record w { ledger = l })
+ledger_well w l h = record { store = h.store; jobs = h.jobs; realm = h.realm; not_empty = h.not_empty }
 
-name_well : (w : World) (name : Option Text) → IsWorldWellFormed w → IsWorldWellFormed (with_name name w)
+name_well : (w : Heap) (name : Option Text) → IsHeapWellFormed w → IsHeapWellFormed (with_name name w)
 name_well w None h = h
-name_well w (Some t) h = record { store = h.store; jobs = h.jobs; rejections = h.rejections; realm = h.realm; modules = h.modules; not_empty = h.not_empty }
+name_well w (Some t) h = record { store = h.store; jobs = h.jobs; realm = h.realm; not_empty = h.not_empty }
 
--- a world with another store of no fewer things
-store_well : (w : World) (s : Store) → length w.store ≤ length s → IsWorldWellFormed w → IsWellFormed s → IsWorldWellFormed (record w { store = s })
+-- a heap with another store of no fewer things
+store_well : (w : Heap) (s : Store) → length w.store ≤ length s → IsHeapWellFormed w → IsWellFormed s → IsHeapWellFormed (record w { store = s })
 store_well w s le h g = record {
   store = g;
   jobs = jobs_more (length w.store) (length s) le w.jobs h.jobs;
-  rejections = numbers_more (length w.store) (length s) le w.rejections h.rejections;
   realm = numbers_more (length w.store) (length s) le w.realm h.realm;
-  modules = modules_more (length w.store) (length s) le w.modules h.modules;
   not_empty = let e = h.not_empty in omega arith;
 }
 
@@ -106,14 +105,14 @@ set_le s n t = let e = length-set s n t in omega arith
 
 -- ---- events
 
-charged_well : {A : Type 0} (P : A → World → Type 0) (price : Room) (a : A) (v : World) → ((l : Ledger) → P a (record v { ledger = l })) → IfHappens (charged price a v) P
+charged_well : {A : Type 0} (P : A → Heap → Type 0) (price : Room) (a : A) (v : Heap) → ((l : Ledger) → P a (record v { ledger = l })) → IfHappens (charged price a v) P
 charged_well P price a v h = by_stop (passed (plus v.ledger.used price) v.ledger.room)
   where
     by_stop : (o : Option Full) → IfHappens (charged_unless o a (record v { ledger = record v.ledger { used = plus v.ledger.used price } })) P
     by_stop None = h (record v.ledger { used = plus v.ledger.used price })
     by_stop (Some full) = tt
 
-written_well : {A : Type 0} (P : A → World → Type 0) (v : World) (n : ℕ) (before after : Thing) (p : Room) (a : A) → P a v → ((l : Ledger) → P a (record v { store = set v.store n after; ledger = l })) → IfHappens (written v n before after p a) P
+written_well : {A : Type 0} (P : A → Heap → Type 0) (v : Heap) (n : ℕ) (before after : Thing) (p : Room) (a : A) → P a v → ((l : Ledger) → P a (record v { store = set v.store n after; ledger = l })) → IfHappens (written v n before after p a) P
 unfolding written
 written_well P v n before after p a same h = by_test (frozen before)
   where
@@ -157,16 +156,16 @@ has_key k PreventExtensions b = tt
 has_key k (SetPrototypeOf v) b = tt
 has_key k Freeze b = tt
 
-apply_well : (w : World) (n : ℕ) (m : Method) (before : ObjectRecord) (answer : Bool) (after : Option ObjectRecord) → IsWorldWellFormed w → IfSome after IsOrderly → IfSome after (IsObjectBelow (length w.store)) → IfSome after (λ o. (p : Option ℕ) → ChainEnds w.store p → ChainEnds (set w.store n (AnObject o)) p)
-    → IfHappens (apply_outcome w n m before answer after) (λ a v. IsWorldWellFormed v × (Unit {0}))
+apply_well : (w : Heap) (n : ℕ) (m : Method) (before : ObjectRecord) (answer : Bool) (after : Option ObjectRecord) → IsHeapWellFormed w → IfSome after IsOrderly → IfSome after (IsObjectBelow (length w.store)) → IfSome after (λ o. (p : Option ℕ) → ChainEnds w.store p → ChainEnds (set w.store n (AnObject o)) p)
+    → IfHappens (apply_outcome w n m before answer after) (λ a v. IsHeapWellFormed v × (Unit {0}))
 apply_well w n m before answer None h o b c = (h, tt)
 apply_well w n m before answer (Some after) h o b c =
     let name : Option Text = name_added w m before after in
     let store : IsWellFormed (set w.store n (AnObject after)) = set_well w.store n (AnObject after) h.store o b c in
-    written_well (λ a v. IsWorldWellFormed v × (Unit {0})) (with_name name w) n (AnObject before) (AnObject after) (plus (growth before after) (name_cost m name)) answer
+    written_well (λ a v. IsHeapWellFormed v × (Unit {0})) (with_name name w) n (AnObject before) (AnObject after) (plus (growth before after) (name_cost m name)) answer
     (name_well w name h, tt) (λ l. (by_name name l store, tt))
   where
-    by_name : (name : Option Text) (l : Ledger) → IsWellFormed (set w.store n (AnObject after)) → IsWorldWellFormed (record (with_name name w) { store = set (with_name name w).store n (AnObject after); ledger = l })
+    by_name : (name : Option Text) (l : Ledger) → IsWellFormed (set w.store n (AnObject after)) → IsHeapWellFormed (record (with_name name w) { store = set (with_name name w).store n (AnObject after); ledger = l })
     by_name None l g = ledger_well (record w { store = set w.store n (AnObject after) }) l (store_well w (set w.store n (AnObject after)) (set_le w.store n (AnObject after)) h g)
     by_name (Some t) l g = ledger_well (record w { store = set w.store n (AnObject after); names = w.names ++ t ∷ [] }) l (name_well (record w { store = set w.store n (AnObject after) }) (Some t) (store_well w (set w.store n (AnObject after)) (set_le w.store n (AnObject after)) h g))
 
@@ -178,8 +177,8 @@ promise_orderly o state reactions h = record { indices = h.indices; range = h.ra
 promise_below : (m : ℕ) (o : ObjectRecord) (state : PromiseState) (reactions : List Reaction) → IsStateBelow m state → AreReactionsBelow m reactions → IsObjectBelow m o → IsObjectBelow m (record o { class = Promise state reactions })
 promise_below m o state reactions s r h = record { class = (s, r); prototype = h.prototype; indexed = h.indexed; named = h.named }
 
-promise_set : (w : World) (n : ℕ) (state : PromiseState) (reactions : List Reaction) → IsWorldWellFormed w → IsStateBelow (length w.store) state → AreReactionsBelow (length w.store) reactions → (l : Ledger)
-    → IsWorldWellFormed (record w { store = set w.store n (AnObject (record (object_in w.store n) { class = Promise state reactions })); ledger = l })
+promise_set : (w : Heap) (n : ℕ) (state : PromiseState) (reactions : List Reaction) → IsHeapWellFormed w → IsStateBelow (length w.store) state → AreReactionsBelow (length w.store) reactions → (l : Ledger)
+    → IsHeapWellFormed (record w { store = set w.store n (AnObject (record (object_in w.store n) { class = Promise state reactions })); ledger = l })
 promise_set w n state reactions h s r l =
     let o : ObjectRecord = object_in w.store n in
     let t : Thing = AnObject (record o { class = Promise state reactions }) in
@@ -187,10 +186,10 @@ promise_set w n state reactions h s r l =
     (store_well w (set w.store n t) (set_le w.store n t) h
     (set_well w.store n t h.store (promise_orderly o state reactions (h.store.orderly n)) (promise_below (length w.store) o state reactions s r (h.store.objects n)) (set_chain w.store n t refl)))
 
-settle_well : (w : World) (n : ℕ) (state : PromiseState) (c : Class) → IsWorldWellFormed w → IsStateBelow (length w.store) state → IsClassBelow (length w.store) c → IfHappens (settle_class w n state (object_in w.store n) c) (λ a v. IsWorldWellFormed v × (Unit {0}))
+settle_well : (w : Heap) (n : ℕ) (state : PromiseState) (c : Class) → IsHeapWellFormed w → IsStateBelow (length w.store) state → IsClassBelow (length w.store) c → IfHappens (settle_class w n state (object_in w.store n) c) (λ a v. IsHeapWellFormed v × (Unit {0}))
 settle_well w n state (Promise Pending reactions) h s b =
     let t : Thing = AnObject (record (object_in w.store n) { class = Promise state reactions }) in
-    written_well (λ a v. IsWorldWellFormed v × (Unit {0})) w n (AnObject (object_in w.store n)) t nothing (Some (length reactions)) (h, tt)
+    written_well (λ a v. IsHeapWellFormed v × (Unit {0})) w n (AnObject (object_in w.store n)) t nothing (Some (length reactions)) (h, tt)
     (λ l. (promise_set w n state reactions h s b.1 l, tt))
 settle_well w n state (Promise (Fulfilled v) reactions) h s b = (h, tt)
 settle_well w n state (Promise (Rejected v) reactions) h s b = (h, tt)
@@ -202,7 +201,7 @@ settle_well w n state (ResolveFunction p m) h s b = (h, tt)
 settle_well w n state (RejectFunction p m) h s b = (h, tt)
 settle_well w n state Error h s b = (h, tt)
 
-take_well : (w : World) (n : ℕ) (c : Class) → IsWorldWellFormed w → IsClassBelow (length w.store) c → IfHappens (take_reaction_class w n (object_in w.store n) c) (λ a v. IsWorldWellFormed v × IsReactionAnswerBelow (length v.store) a)
+take_well : (w : Heap) (n : ℕ) (c : Class) → IsHeapWellFormed w → IsClassBelow (length w.store) c → IfHappens (take_reaction_class w n (object_in w.store n) c) (λ a v. IsHeapWellFormed v × IsReactionAnswerBelow (length v.store) a)
 take_well w n (Promise state (r ∷ rs)) h b =
     let t : Thing = AnObject (record (object_in w.store n) { class = Promise state rs }) in
     (promise_set w n state rs h b.0 b.1.1 w.ledger, subst (λ m. IsReactionBelow m r) (sym (length-set w.store n t)) b.1.0)
@@ -219,11 +218,11 @@ reactions_append : (m : ℕ) (rs : List Reaction) (r : Reaction) → AreReaction
 reactions_append m [] r h b = (b, tt)
 reactions_append m (q ∷ rs) r h b = (h.0, reactions_append m rs r h.1 b)
 
-react_well : (w : World) (n : ℕ) (r : Reaction) (c : Class) → IsWorldWellFormed w → IsReactionBelow (length w.store) r → IsClassBelow (length w.store) c → IfHappens (react_class w n r (object_in w.store n) c) (λ a v. IsWorldWellFormed v × (Unit {0}))
+react_well : (w : Heap) (n : ℕ) (r : Reaction) (c : Class) → IsHeapWellFormed w → IsReactionBelow (length w.store) r → IsClassBelow (length w.store) c → IfHappens (react_class w n r (object_in w.store n) c) (λ a v. IsHeapWellFormed v × (Unit {0}))
 react_well w n r (Promise Pending reactions) h q b =
     let o : ObjectRecord = object_in w.store n in
     let after : ObjectRecord = record o { class = Promise Pending (reactions ++ r ∷ []) } in
-    written_well (λ a v. IsWorldWellFormed v × (Unit {0})) w n (AnObject o) (AnObject after) (growth o after) tt (h, tt)
+    written_well (λ a v. IsHeapWellFormed v × (Unit {0})) w n (AnObject o) (AnObject after) (growth o after) tt (h, tt)
     (λ l. (promise_set w n Pending (reactions ++ r ∷ []) h tt (reactions_append (length w.store) reactions r b.1 q) l, tt))
 react_well w n r (Promise (Fulfilled v) reactions) h q b = (h, tt)
 react_well w n r (Promise (Rejected v) reactions) h q b = (h, tt)
@@ -237,12 +236,12 @@ react_well w n r Error h q b = (h, tt)
 
 -- ---- cells and marks
 
-other_set : (w : World) (n : ℕ) (t : Thing) → IsWorldWellFormed w → IsThingOrderly t → IsThingBelow (length w.store) t → (as_object (Some t)).prototype ≡ None → (l : Ledger) → IsWorldWellFormed (record w { store = set w.store n t; ledger = l })
+other_set : (w : Heap) (n : ℕ) (t : Thing) → IsHeapWellFormed w → IsThingOrderly t → IsThingBelow (length w.store) t → (as_object (Some t)).prototype ≡ None → (l : Ledger) → IsHeapWellFormed (record w { store = set w.store n t; ledger = l })
 other_set w n t h o b e l =
     ledger_well (record w { store = set w.store n t }) l (store_well w (set w.store n t) (set_le w.store n t) h (set_well w.store n t h.store o b (cut_chain w.store n t e)))
 
-other_well : (w : World) (n : ℕ) (before after : Thing) (p : Room) → IsWorldWellFormed w → IsThingOrderly after → IsThingBelow (length w.store) after → (as_object (Some after)).prototype ≡ None → IfHappens {A = Unit {0}} (written w n before after p tt) (λ a v. IsWorldWellFormed v × (Unit {0}))
-other_well w n before after p h o b e = written_well {A = Unit {0}} (λ a v. IsWorldWellFormed v × (Unit {0})) w n before after p tt (h, tt) (λ l. (other_set w n after h o b e l, tt))
+other_well : (w : Heap) (n : ℕ) (before after : Thing) (p : Room) → IsHeapWellFormed w → IsThingOrderly after → IsThingBelow (length w.store) after → (as_object (Some after)).prototype ≡ None → IfHappens {A = Unit {0}} (written w n before after p tt) (λ a v. IsHeapWellFormed v × (Unit {0}))
+other_well w n before after p h o b e = written_well {A = Unit {0}} (λ a v. IsHeapWellFormed v × (Unit {0})) w n before after p tt (h, tt) (λ l. (other_set w n after h o b e l, tt))
 
 -- ---- a function's `prototype`
 
@@ -309,7 +308,7 @@ at_home_orderly p a o h = record { indices = h.indices; range = h.range; length 
     no true (Promise s rs) f = f
     no false c f = f
 
-attach_well : (w : World) (f p : ℕ) (a : Bool) (t : Option Thing) → slice_get w.store f ≡ t → p < length w.store → IsWorldWellFormed w → IsWorldWellFormed (record w { store = attached p a t w.store f })
+attach_well : (w : Heap) (f p : ℕ) (a : Bool) (t : Option Thing) → slice_get w.store f ≡ t → p < length w.store → IsHeapWellFormed w → IsHeapWellFormed (record w { store = attached p a t w.store f })
 unfolding object_in
 attach_well w f p a (Some (AnObject o)) e l h =
     let here : object_in w.store f ≡ o = ap as_object e in
@@ -326,7 +325,7 @@ attach_well w f p a (Some (ACell c)) e l h = h
 attach_well w f p a (Some (AMark b)) e l h = h
 attach_well w f p a None e l h = h
 
--- ---- jobs and rejections
+-- ---- jobs
 
 jobs_append : (m : ℕ) (jobs : List Job) (job : Job) → AreJobsBelow m jobs → IsJobBelow m job → AreJobsBelow m (jobs ++ job ∷ [])
 jobs_append m [] job h b = (b, tt)
@@ -344,41 +343,59 @@ numbers_filter m test (n ∷ ns) h = by_test (test n) (numbers_filter m test ns 
     by_test true rest = (h.0, rest)
     by_test false rest = rest
 
-jobs_well : (w : World) (jobs : List Job) (l : Ledger) → IsWorldWellFormed w → AreJobsBelow (length w.store) jobs → IsWorldWellFormed (record w { jobs = jobs; ledger = l })
-jobs_well w jobs l h b = record { store = h.store; jobs = b; rejections = h.rejections; realm = h.realm; modules = h.modules; not_empty = h.not_empty }
+jobs_well : (w : Heap) (jobs : List Job) (l : Ledger) → IsHeapWellFormed w → AreJobsBelow (length w.store) jobs → IsHeapWellFormed (record w { jobs = jobs; ledger = l })
+jobs_well w jobs l h b = record { store = h.store; jobs = b; realm = h.realm; not_empty = h.not_empty }
 
-dequeue_well : (w : World) (jobs : List Job) → IsWorldWellFormed w → AreJobsBelow (length w.store) jobs → IfHappens (dequeue jobs w) (λ a v. IsWorldWellFormed v × IsJobAnswerBelow (length v.store) a)
+dequeue_well : (w : Heap) (jobs : List Job) → IsHeapWellFormed w → AreJobsBelow (length w.store) jobs → IfHappens (dequeue_from jobs w) (λ a v. IsHeapWellFormed v × IsJobAnswerBelow (length v.store) a)
 dequeue_well w [] h b = (h, tt)
 dequeue_well w (job ∷ jobs) h b = (jobs_well w jobs w.ledger h b.1, b.0)
 
-rejections_well : (w : World) (ns : List ℕ) → IsWorldWellFormed w → AreNumbersBelow (length w.store) ns → IsWorldWellFormed (record w { rejections = ns })
-rejections_well w ns h b = record { store = h.store; jobs = h.jobs; rejections = b; realm = h.realm; modules = h.modules; not_empty = h.not_empty }
+make_well : (h : Heap) (t : Thing) → IsHeapWellFormed h → IsThingBelow (length h.store) t → IsThingOrderly t → IfHappens (make t h) (λ a g. IsHeapWellFormed g × (a < length g.store))
+make_well h t w b o =
+    let s : Store = h.store ++ t ∷ [] in
+    let long : length s ≡ length h.store + 1 = length-append h.store (t ∷ []) in
+    charged_well (λ a g. IsHeapWellFormed g × (a < length g.store)) (some_slots (size t)) (length h.store) (record h { store = s })
+    (λ l. (ledger_well (record h { store = s }) l (store_well h s (omega (arith, long)) w (append_well h.store t w.store o b)), omega (arith, long)))
+
+-- ---- worlds
+
+-- what a world holds beside its heap stands in a heap of no fewer things
+lifted_well : {A : Type 0} (B : ℕ → A → Type 0) (w : World) (e : Event Heap A) → IsWorldWellFormed w → IfHappens (with_rest w e) (λ a v. Grows w.heap v.heap) → IfHappens e (λ a h. IsHeapWellFormed h × B (length h.store) a)
+    → IfHappens (with_rest w e) (λ a v. IsWorldWellFormed v × B (length v.heap.store) a)
+lifted_well B w (Stops full) well grows h = tt
+lifted_well B w (Happens a g) well grows h = (record {
+  heap = h.0;
+  rejections = numbers_more (length w.heap.store) (length g.store) grows.things w.rejections well.rejections;
+  modules = modules_more (length w.heap.store) (length g.store) grows.things w.modules well.modules;
+}, h.1)
+
+rejections_well : (w : World) (ns : List ℕ) → IsWorldWellFormed w → AreNumbersBelow (length w.heap.store) ns → IsWorldWellFormed (record w { rejections = ns })
+rejections_well w ns h b = record { heap = h.heap; rejections = b; modules = h.modules }
 
 -- ---- all deeds
 
-pub perform_well : (d : Deed) (w : World) → IsWorldWellFormed w → IsDeedBelow (length w.store) d → IfHappens (perform d w) (λ a v. IsWorldWellFormed v × IsAnswerBelow (length v.store) d a)
+pub perform_well : (d : Deed) (w : World) → IsWorldWellFormed w → IsDeedBelow (length w.heap.store) d → IfHappens (perform d w) (λ a v. IsWorldWellFormed v × IsAnswerBelow (length v.heap.store) d a)
 unfolding perform
-perform_well (Make t) w h b =
-    let s : Store = w.store ++ t ∷ [] in
-    let long : length s ≡ length w.store + 1 = length-append w.store (t ∷ []) in
-    charged_well (λ a v. IsWorldWellFormed v × (a < length v.store)) (some_slots (size t)) (length w.store) (record w { store = s })
-    (λ l. (ledger_well (record w { store = s }) l (store_well w s (omega (arith, long)) h (append_well w.store t h.store b.1 b.0)), omega (arith, long)))
+perform_well (Make t) w h b = lifted_well (λ n a. a < n) w (make t w.heap) h (perform_grows (Make t) w) (make_well w.heap t h.heap b.0 b.1)
 perform_well (Apply n m) w h b =
-    let before : ObjectRecord = object_in w.store n in
-    apply_well w n m before (apply_method m w.store n before).answer (apply_method m w.store n before).written h
-    (method_orderly m w.store n before (has_key (length w.store) m b) (h.store.orderly n))
-    (method_below (length w.store) m w.store n before b (h.store.orderly n) (h.store.objects n))
-    (method_chain m w.store n)
-perform_well (Attach f p a) w h b = (attach_well w f p a (slice_get w.store f) refl b h, tt)
-perform_well (SetCell n v) w h b = other_well w n (ACell (cell_in w.store n)) (ACell (record { value = Some v; const = (cell_in w.store n).const })) nothing h tt b refl
-perform_well (SetMark n) w h b = other_well w n (AMark (mark_in w.store n)) (AMark true) nothing h tt tt refl
-perform_well (Settle n state) w h b = settle_well w n state (object_in w.store n).class h b (h.store.objects n).class
-perform_well (TakeReaction n) w h b = take_well w n (object_in w.store n).class h (h.store.objects n).class
-perform_well (AddReaction n r) w h b = react_well w n r (object_in w.store n).class h b (h.store.objects n).class
-perform_well (Enqueue job) w h b = charged_well (λ a v. IsWorldWellFormed v × (Unit {0})) (some_slots 4) tt (record w { jobs = w.jobs ++ job ∷ [] }) (λ l. (jobs_well w (w.jobs ++ job ∷ []) l h (jobs_append (length w.store) w.jobs job h.jobs b), tt))
-perform_well Dequeue w h b = dequeue_well w w.jobs h h.jobs
-perform_well (AddRejection n) w h b = (rejections_well w (w.rejections ++ n ∷ []) h (numbers_append (length w.store) w.rejections n h.rejections b), tt)
-perform_well (RemoveRejection n) w h b = (rejections_well w (filter (λ m. not (m == n)) w.rejections) h (numbers_filter (length w.store) (λ m. not (m == n)) w.rejections h.rejections), tt)
-perform_well (MakeText units) w h b = charged_well (λ a v. IsWorldWellFormed v × (Unit {0})) (some_units units) tt w (λ l. (ledger_well w l h, tt))
-perform_well (Write bytes) w h b = (record { store = h.store; jobs = h.jobs; rejections = h.rejections; realm = h.realm; modules = h.modules; not_empty = h.not_empty }, tt)
-perform_well (Take line left) w h b = (record { store = h.store; jobs = h.jobs; rejections = h.rejections; realm = h.realm; modules = h.modules; not_empty = h.not_empty }, tt)
+    let before : ObjectRecord = object_in w.heap.store n in
+    lifted_well (λ n a. Unit {0}) w (apply n m w.heap) h (perform_grows (Apply n m) w)
+    (apply_well w.heap n m before (apply_method m w.heap.store n before).answer (apply_method m w.heap.store n before).written h.heap
+    (method_orderly m w.heap.store n before (has_key (length w.heap.store) m b) (h.heap.store.orderly n))
+    (method_below (length w.heap.store) m w.heap.store n before b (h.heap.store.orderly n) (h.heap.store.objects n))
+    (method_chain m w.heap.store n))
+perform_well (Attach f p a) w h b = lifted_well (λ n a. Unit {0}) w (attach f p a w.heap) h (perform_grows (Attach f p a) w) (attach_well w.heap f p a (slice_get w.heap.store f) refl b h.heap, tt)
+perform_well (SetCell n v) w h b = lifted_well (λ n a. Unit {0}) w (set_cell n v w.heap) h (perform_grows (SetCell n v) w) (other_well w.heap n (ACell (cell_in w.heap.store n)) (ACell (record { value = Some v; const = (cell_in w.heap.store n).const })) nothing h.heap tt b refl)
+perform_well (SetMark n) w h b = lifted_well (λ n a. Unit {0}) w (set_mark n w.heap) h (perform_grows (SetMark n) w) (other_well w.heap n (AMark (mark_in w.heap.store n)) (AMark true) nothing h.heap tt tt refl)
+perform_well (Settle n state) w h b = lifted_well (λ n a. Unit {0}) w (settle n state w.heap) h (perform_grows (Settle n state) w) (settle_well w.heap n state (object_in w.heap.store n).class h.heap b (h.heap.store.objects n).class)
+perform_well (TakeReaction n) w h b = lifted_well IsReactionAnswerBelow w (take_reaction n w.heap) h (perform_grows (TakeReaction n) w) (take_well w.heap n (object_in w.heap.store n).class h.heap (h.heap.store.objects n).class)
+perform_well (AddReaction n r) w h b = lifted_well (λ n a. Unit {0}) w (add_reaction n r w.heap) h (perform_grows (AddReaction n r) w) (react_well w.heap n r (object_in w.heap.store n).class h.heap b (h.heap.store.objects n).class)
+perform_well (Enqueue job) w h b =
+    lifted_well (λ n a. Unit {0}) w (enqueue job w.heap) h (perform_grows (Enqueue job) w)
+    (charged_well (λ a v. IsHeapWellFormed v × (Unit {0})) (some_slots 4) tt (record w.heap { jobs = w.heap.jobs ++ job ∷ [] }) (λ l. (jobs_well w.heap (w.heap.jobs ++ job ∷ []) l h.heap (jobs_append (length w.heap.store) w.heap.jobs job h.heap.jobs b), tt)))
+perform_well Dequeue w h b = lifted_well IsJobAnswerBelow w (dequeue w.heap) h (perform_grows Dequeue w) (dequeue_well w.heap w.heap.jobs h.heap h.heap.jobs)
+perform_well (AddRejection n) w h b = (rejections_well w (w.rejections ++ n ∷ []) h (numbers_append (length w.heap.store) w.rejections n h.rejections b), tt)
+perform_well (RemoveRejection n) w h b = (rejections_well w (filter (λ m. not (m == n)) w.rejections) h (numbers_filter (length w.heap.store) (λ m. not (m == n)) w.rejections h.rejections), tt)
+perform_well (MakeText units) w h b = lifted_well (λ n a. Unit {0}) w (charged (some_units units) tt w.heap) h (perform_grows (MakeText units) w) (charged_well (λ a v. IsHeapWellFormed v × (Unit {0})) (some_units units) tt w.heap (λ l. (ledger_well w.heap l h.heap, tt)))
+perform_well (Write bytes) w h b = (record { heap = h.heap; rejections = h.rejections; modules = h.modules }, tt)
+perform_well (Take line left) w h b = (record { heap = h.heap; rejections = h.rejections; modules = h.modules }, tt)

@@ -1,16 +1,16 @@
--- Events keep two worlds the same but for the numbers of things.
+-- Events keep what two heaps hold the same but for the numbers of things.
 use Rattle.std.proofs.Common.{◌≡◌, ℕ, zero, suc, ◌+◌, ◌*◌, ◌<◌, ◌≤◌, inl, inr, Bool, true, false, cond, not, ◌&&◌, List, [], ◌∷◌, ◌++◌, length, set, get_or, arith, refl, sym, ap, ap₂, ◌∙◌, subst, Option, Some, None, slice_get, length-set}
 use Rattle.std.proofs.lemmas.Bool.{cases_eq}
 use Rattle.std.proofs.lemmas.List.{get_or-set_other}
 use Rattle.js_value.specs.Value.{Value}
 use Rattle.js_value.specs.Store.{Thing, Property, Content, Class, ObjectRecord, frozen, is_frozen, is_fixed, is_fixed_content, are_fixed, is_pending, length_entry, length_property, size, object_size, internals, is_initialised}
 use Rattle.js_value.specs.declared.counts.Room.{Room}
-use Rattle.es_ops.specs.State.{World, plus, some_slots}
+use Rattle.es_ops.specs.State.{Heap, plus, some_slots}
 use Rattle.js_value.specs.declared.counts.Full.{Full}
 use Rattle.es_ops.specs.Ledger.{Happens, passed, charged, charged_unless, written, with_thing, first_cost}
 use Rattle.es_ops.proofs.Others.{get-set_other}
 use Rattle.es_ops.specs.Related.{Naming, BothOption, BothNone, BothSome, BothList, BothEmpty, BothCons, BothValue, BothContent, BothData, BothAccessor, BothEntry, BothPending, BothFulfilled, BothRejected, BothClass, BothOrdinary, BothArray, BothScript, BothBuiltIn, BothResolve, BothReject, BothError, BothPromise, BothRecord, BothThing, BothAnObject, BothACell, BothAMark}
-use Rattle.es_ops.specs.Renaming.{Pairs, named, Extends, BothWorld, BothEvent}
+use Rattle.es_ops.specs.Renaming.{Pairs, named, Extends, BothHeap, BothEvent}
 
 -- ---- what is the same of related things
 
@@ -98,9 +98,9 @@ cost_past [] i l = refl
 cost_past (y ∷ xs) zero l = absurd (omega arith)
 cost_past (y ∷ xs) (suc i) l = cost_past xs i (omega arith)
 
--- ---- worlds
+-- ---- heaps
 
-module _ (ps : Pairs) (w v : World) (b : BothWorld ps w v) where
+module _ (ps : Pairs) (w v : Heap) (b : BothHeap ps w v) where
   apart : (m n i j : ℕ) → named ps m n → named ps i j → (m ≡ i → ⊥) → n ≡ j → ⊥
   apart m n i j r s d e = d (b.one_to_one.back m i j (subst (λ x. named ps m x) e r) s)
 
@@ -109,7 +109,7 @@ module _ (ps : Pairs) (w v : World) (b : BothWorld ps w v) where
 
   -- with the same thing written on both sides
   pub set_both : (m n : ℕ) (t u : Thing) (x y : Room) → named ps m n → BothThing (named ps) t u → x ≡ y
-      → BothWorld ps (record w { store = set w.store m t; ledger = record w.ledger { used = x; first_costs = set w.ledger.first_costs m 0 } }) (record v { store = set v.store n u; ledger = record v.ledger { used = y; first_costs = set v.ledger.first_costs n 0 } })
+      → BothHeap ps (record w { store = set w.store m t; ledger = record w.ledger { used = x; first_costs = set w.ledger.first_costs m 0 } }) (record v { store = set v.store n u; ledger = record v.ledger { used = y; first_costs = set v.ledger.first_costs n 0 } })
   set_both m n t u x y r h e = record {
     one_to_one = b.one_to_one;
     stand = λ i j s. let k = b.stand i j s in let l = length-set w.store m t in let o = length-set v.store n u in (omega (arith, k.0, l), omega (arith, k.1, o));
@@ -128,15 +128,10 @@ module _ (ps : Pairs) (w v : World) (b : BothWorld ps w v) where
     costs_left = let k = b.costs_left in let l = length-set w.store m t in let o = length-set w.ledger.first_costs m 0 in omega (arith, k, l, o);
     costs_right = let k = b.costs_right in let l = length-set v.store n u in let o = length-set v.ledger.first_costs n 0 in omega (arith, k, l, o);
     jobs = b.jobs;
-    rejections = b.rejections;
-    modules = b.modules;
-    functions = b.functions;
-    trace = b.trace;
-    input = b.input;
   }
 
   -- and where it costs nothing
-  pub put_both : (m n : ℕ) (t u : Thing) → named ps m n → BothThing (named ps) t u → BothWorld ps (record w { store = set w.store m t }) (record v { store = set v.store n u })
+  pub put_both : (m n : ℕ) (t u : Thing) → named ps m n → BothThing (named ps) t u → BothHeap ps (record w { store = set w.store m t }) (record v { store = set v.store n u })
   put_both m n t u r h =
       let x = set_both m n t u w.ledger.used v.ledger.used r h b.used in
       record {
@@ -151,39 +146,34 @@ module _ (ps : Pairs) (w v : World) (b : BothWorld ps w v) where
         costs_left = let k = b.costs_left in let l = length-set w.store m t in omega (arith, k, l);
         costs_right = let k = b.costs_right in let l = length-set v.store n u in omega (arith, k, l);
         jobs = b.jobs;
-        rejections = b.rejections;
-        modules = b.modules;
-        functions = b.functions;
-        trace = b.trace;
-        input = b.input;
       }
 
   passed_same : (p q : Room) → p ≡ q → passed (plus w.ledger.used p) w.ledger.room ≡ passed (plus v.ledger.used q) v.ledger.room
   passed_same p q e = ap₂ passed (ap₂ plus b.used e) b.room
 
-  -- an event that costs the same on both sides, by the worlds that it leaves
-  pub unless_both : {A B : Type 0} (Answers : Naming → A → B → Type 0) (qs : Pairs) (p q : Room) (x : A) (y : B) (i j : World) → Extends ps qs → p ≡ q → BothWorld qs i j → Answers (named qs) x y
-      → BothEvent ps Answers (charged_unless (passed (plus w.ledger.used p) w.ledger.room) x i) (charged_unless (passed (plus v.ledger.used q) v.ledger.room) y j)
+  -- an event that costs the same on both sides, by the heaps that it leaves
+  pub unless_both : {A B : Type 0} (Answers : Naming → A → B → Type 0) (qs : Pairs) (p q : Room) (x : A) (y : B) (i j : Heap) → Extends ps qs → p ≡ q → BothHeap qs i j → Answers (named qs) x y
+      → BothEvent BothHeap ps Answers (charged_unless (passed (plus w.ledger.used p) w.ledger.room) x i) (charged_unless (passed (plus v.ledger.used q) v.ledger.room) y j)
   unless_both Answers qs p q x y i j l e h g = by_stop (passed (plus w.ledger.used p) w.ledger.room) (passed (plus v.ledger.used q) v.ledger.room) (passed_same p q e)
     where
-      by_stop : (f z : Option Full) → f ≡ z → BothEvent ps Answers (charged_unless f x i) (charged_unless z y j)
+      by_stop : (f z : Option Full) → f ≡ z → BothEvent BothHeap ps Answers (charged_unless f x i) (charged_unless z y j)
       by_stop f z e = rw e (at z)
         where
-          at : (z : Option Full) → BothEvent ps Answers (charged_unless z x i) (charged_unless z y j)
+          at : (z : Option Full) → BothEvent BothHeap ps Answers (charged_unless z x i) (charged_unless z y j)
           at None = (qs, l, h, g)
           at (Some full) = refl
 
   pub written_both : {A B : Type 0} (Answers : Naming → A → B → Type 0) (m n : ℕ) (s t s' t' : Thing) (p q : Room) (x : A) (y : B) → named ps m n → BothThing (named ps) s t → BothThing (named ps) s' t' → p ≡ q → Answers (named ps) x y
-      → BothEvent ps Answers (written w m s s' p x) (written v n t t' q y)
+      → BothEvent BothHeap ps Answers (written w m s s' p x) (written v n t t' q y)
   unfolding written
   written_both Answers m n s t s' t' p q x y r h g e a = by_frozen (frozen s) (frozen t) (frozen_same (named ps) h)
     where
       price : plus (first_cost w m) p ≡ plus (first_cost v n) q
       price = ap₂ plus (ap some_slots (b.costs m n r)) e
 
-      at : (f : Bool) → BothEvent ps Answers (cond f (Happens x w) (charged (plus (first_cost w m) p) x (with_thing w m s'))) (cond f (Happens y v) (charged (plus (first_cost v n) q) y (with_thing v n t')))
+      at : (f : Bool) → BothEvent BothHeap ps Answers (cond f (Happens x w) (charged (plus (first_cost w m) p) x (with_thing w m s'))) (cond f (Happens y v) (charged (plus (first_cost v n) q) y (with_thing v n t')))
       at true = (ps, λ i j z. z, b, a)
       at false = unless_both Answers ps (plus (first_cost w m) p) (plus (first_cost v n) q) x y _ _ (λ i j z. z) price (set_both m n s' t' _ _ r g (ap₂ plus b.used price)) a
 
-      by_frozen : (f z : Bool) → f ≡ z → BothEvent ps Answers (cond f (Happens x w) (charged (plus (first_cost w m) p) x (with_thing w m s'))) (cond z (Happens y v) (charged (plus (first_cost v n) q) y (with_thing v n t')))
+      by_frozen : (f z : Bool) → f ≡ z → BothEvent BothHeap ps Answers (cond f (Happens x w) (charged (plus (first_cost w m) p) x (with_thing w m s'))) (cond z (Happens y v) (charged (plus (first_cost v n) q) y (with_thing v n t')))
       by_frozen f z e = rw e (at z)

@@ -18,6 +18,7 @@ pub mod Operators
 pub mod References
 pub mod Making
 pub mod HostCalls
+pub mod ModuleGraph
 pub mod Operate
 pub mod Laws
 pub mod Operations

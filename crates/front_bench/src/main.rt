@@ -4,6 +4,8 @@
 mod task;
 #[cfg(test)]
 mod tests;
+#[cfg(test)]
+mod token_tests;
 
 ghost use Rattle.std.specs.Prelude.{◌≤◌, length};
 

@@ -10,8 +10,6 @@ mod escapes;
 mod numbers;
 mod pass;
 mod quotes;
-#[cfg(test)]
-mod tests;
 mod words;
 
 pub use pass::tokens;

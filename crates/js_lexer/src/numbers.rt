@@ -28,7 +28,7 @@ pub fn take_number(at: u32, first: char, left: &mut Characters) -> Result<Found,
     Ok(Found::Token(TokenKind::Number(value as i64)))
 }
 
-/// Whether what may not stand directly after a number is next.
+/// Whether the next character is one that may not stand directly behind a number.
 fn is_followed(left: &Characters) -> bool
     ensures { result ≡ first_is goes_on left.now.text }
 {

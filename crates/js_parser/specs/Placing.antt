@@ -1,4 +1,4 @@
--- What it comes to that a statement is put into the innermost form.
+-- What comes of putting a statement into the innermost form.
 use Rattle.std.specs.Prelude.{◌≡◌, List}
 use Rattle.es_model.specs.Tree as t
 use Rattle.parser_forms.specs.Kept.{Sorted}

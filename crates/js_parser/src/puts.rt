@@ -13,7 +13,7 @@ use crate::frame::{Control, Frame, ItemFrame, StatementDue, StatementFrame};
 use parser_forms::{Piece, Stack};
 use std::alloc::AllocError;
 
-/// What it comes to that a statement is put into a form: the reading stands somewhere, or the form is
+/// What comes of putting a statement into a form: the reading stands somewhere, or the form is
 /// complete in its turn, and its statement is the last piece.
 #[derive(Clone, Copy)]
 pub enum Placed {

@@ -1,4 +1,4 @@
-//! The trees of the syntax that contracts don't see as pure trees by themselves, each as one of these.
+//! For each syntax type that has no model as a pure tree of its own, a type here that has one.
 
 use es_model::{
     Case, Class, Declarator, Expression, Function, Head, Item, Key, Member, Statement, TreeList,

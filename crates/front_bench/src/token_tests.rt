@@ -1,7 +1,9 @@
+//! Texts through the lexer: the tokens with their places, or the fault, as worked out from the lexical grammar by hand.
+
 ghost use Rattle.std.specs.Prelude.{◌≤◌, length};
 
-use crate::tokens;
 use es_model::{Token, TokenKind};
+use js_lexer::tokens;
 use std::alloc::{AllocError, Global};
 use std::test::Fail;
 

@@ -1,0 +1,2 @@
+import { print } from "host";
+const curry = f => { const go = args => x => { const all = args.concat([x]); return all.length >= f.length ? f.apply(undefined, all) : go(all); }; return go([]); }; const compose = fs => x => fs.reduce((v, f) => f(v), x); const add3 = (a, b, c) => a + b + c; print(curry(add3)(1)(2)(3)); print(compose([x => x + 1, x => x * 2, x => "r" + x])(4)); const once = f => { let done = false, r; return () => { if (!done) { done = true; r = f(); } return r; }; }; let n = 0; const o = once(() => ++n); print(o() + o() + n);

@@ -1,0 +1,2 @@
+import { Thermo } from "sensor";
+Thermo.prototype.label = function () { return "T" + this.id; };

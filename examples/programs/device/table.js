@@ -1,0 +1,1 @@
+export const base = Object.freeze([10, 20]);

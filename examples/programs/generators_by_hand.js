@@ -1,0 +1,3 @@
+import { print } from "host";
+const range = (a, b) => { let i = a; return { next() { return i < b ? { value: i++, done: false } : { value: undefined, done: true }; } }; }; const each = (it, f) => { for (let r = it.next(); !r.done; r = it.next()) f(r.value); };
+let s = 0; each(range(1, 5), x => { s += x; }); print(s); const take = (it, n) => { const out = []; each({ next() { return n-- > 0 ? it.next() : { done: true }; } }, x => out.push(x)); return out; }; print(take(range(10, 99), 3).join()); const fib = () => { let a = 0, b = 1; return { next() { const v = a; a = b; b += v; return { value: v, done: false }; } }; }; print(take(fib(), 10).join());

@@ -1,0 +1,3 @@
+import { print } from "host";
+class T { static get count() { return T.n; } static set count(v) { T.n = v * 2; } static make() { return new this(); } } T.n = 1; T.count = 4; print(T.count); print(T.make() instanceof T); class U extends T { } U.count = 1; print(T.n + "" + U.n + U.count); print(U.make() instanceof U);
+const acc = { get a() { return 1; }, set a(v) { } , get b() { return 2; } }; print(Object.keys(acc).join()); const m = { get x() { return this.y; }, y: 3 }; print(Object.create(m, undefined).x); const d = Object.getOwnPropertyDescriptor(acc, "b"); print(d.set === undefined); print(typeof d.get);

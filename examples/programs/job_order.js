@@ -1,0 +1,2 @@
+import { print } from "host";
+const log = []; const p = Promise.resolve(); p.then(() => { log.push(1); p.then(() => log.push(4)); }).then(() => log.push(5)); p.then(() => { log.push(2); Promise.resolve().then(() => { log.push(6); }); }); p.then(() => log.push(3)); let n = 0; const tick = () => { n++; if (n < 12) Promise.resolve().then(tick); else print(log.join() + " " + n); }; tick(); print("sync");

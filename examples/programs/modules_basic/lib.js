@@ -1,0 +1,1 @@
+export const a = 1; export let b = 2; export default 3;

@@ -1,0 +1,1 @@
+import { late } from "main"; import { print } from "host"; print(late()); export const call = () => late() + "!";

@@ -1,0 +1,1 @@
+import { print } from "host"; import { two, three, def, one } from "hub"; print(one + two + three + def);

@@ -1,0 +1,1 @@
+import { print } from "host"; import "bad"; print("never");

@@ -1,0 +1,10 @@
+import { print } from "host";
+const t = f => { try { return f(); } catch (e) { return e.name + ": " + e.message; } };
+print(t(() => Object.assign({ a: 1 }, { b: 2 }, null, { a: 3 }).a)); print(t(() => Object.keys(Object.assign({}, [7, 8])).join())); print(t(() => Object.assign({}, 1)));
+print(t(() => Object.is(1, 1))); print(t(() => Object.is("a", "b"))); print(t(() => Object.is(null, undefined)));
+print(t(() => typeof Object())); print(t(() => typeof Object(null))); print(t(() => Object(1))); const o = {}; print(t(() => Object(o) === o)); print(t(() => typeof new Object()));
+print(t(() => Object.create({}, {}))); print(t(() => Object.create(3))); print(t(() => Object.getOwnPropertyNames([1, 2]).join())); print(t(() => Object.getOwnPropertyNames("ab"))); print(t(() => Object.keys(1)));
+print(t(() => Object.getPrototypeOf(undefined))); print(t(() => Object.hasOwn({ a: 1 }, "a"))); print(t(() => Object.hasOwn("s", "length"))); print(t(() => Object.prototype.hasOwnProperty.call(1, "x")));
+print(t(() => Object.prototype.toString.call(null))); print(t(() => Object.prototype.toString.call(undefined))); print(t(() => Object.prototype.toString.call(1))); print(t(() => Object.prototype.toString.call("s"))); print(t(() => Object.prototype.toString.call(true))); print(t(() => Object.prototype.toString.call([]))); print(t(() => Object.prototype.toString.call(print))); print(t(() => Object.prototype.toString.call(new Error()))); print(t(() => Object.prototype.toString.call({})));
+print(t(() => Object.prototype.valueOf.call(7))); print(t(() => Object.prototype.valueOf.call(null))); print(t(() => Object.hasOwn({}, {}))); print(t(() => Object.setPrototypeOf(1, null)));
+print(t(() => Object.values("ab"))); print(t(() => Object.entries([5])[0].join()));

@@ -1,0 +1,10 @@
+import { print } from "host";
+const k = "dyn"; const a = 1;
+const o = { a, b: 2, [k + 1]: 3, "s t": 4, 5: 5, m() { return 6; }, get g() { return this.b * 10; }, set g(v) { this.b = v; }, if: 7, get: 8, set: 9, static: 10 };
+print(Object.keys(o).join()); print(o.a + o.b + o.dyn1 + o["s t"] + o[5] + o.m() + o.if + o.get + o.set + o.static); print(o.g); o.g = 3; print(o.g);
+print("a" in o); print("zz" in o); print("toString" in o); print(Object.hasOwn(o, "toString")); print(o.hasOwnProperty("m"));
+print(delete o.a); print(o.a); print(delete o.nothing); print("a" in o);
+const p = { 10: "x", 9: "y", b: 1, 2: "z", a: 2 }; print(Object.keys(p).join()); p.c = 3; p[1] = "w"; delete p.b; p.b = 4; print(Object.keys(p).join()); print(Object.values(p).join());
+const e = Object.entries({ x: 1, y: 2 }); print(e.length + e[0].join("=") + e[1].join("="));
+print({}.toString()); print([] + ""); print({} + ""); print([1, 2] + ""); print(o.m.name + Object.getOwnPropertyDescriptor(o, "g").get.name);
+const d = { a: 1, b: 2, a: 3 }; print(Object.keys(d).join() + d.a);

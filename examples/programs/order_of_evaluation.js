@@ -1,0 +1,17 @@
+import { print } from "host";
+let log = []; const v = (n, r) => { log.push(n); return r; }; const show = () => { print(log.join()); log = []; };
+const o = { f(a, b) { log.push("call"); return a + b; } };
+v("a", 1) + v("b", 2) * v("c", 3); show();
+v("o", o).f(v("x", 1), v("y", 2)); show();
+v("t", {})[v("k", "p")] = v("r", 1); show();
+v("t", { p: 1 })[v("k", "p")] += v("r", 1); show();
+v("f", (p, q) => v("body", p + q))(v("1", 1), v("2", 2)); show();
+[v("e0"), v("e1")]; ({ [v("k1", "k")]: v("v1"), [v("k2", "q")]: v("v2") }); show();
+new (v("ctor", class { constructor() { log.push("made"); } }))(v("arg")); show();
+`${v("t1", "a")}${v("t2", "b")}`; show();
+v("c", 0) ? v("yes") : v("no"); show();
+(v("1st"), v("2nd")); show();
+const key = { toString() { log.push("tostr"); return "k"; } }; const tgt = {}; tgt[key] = v("val", 1); show(); print(Object.keys(tgt).join());
+try { null[v("k", key)] = v("rhs"); } catch (e) { log.push(e.name); } show();
+try { undefined[v("key")]; } catch (e) { log.push(e.name); } show();
+try { (void 0)(v("arg")); } catch (e) { log.push(e.name); } show();

@@ -1,0 +1,1 @@
+let n = 0; export function inc() { n = n + 1; return n; }

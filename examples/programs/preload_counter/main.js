@@ -1,0 +1,1 @@
+import { print } from "host"; import { inc } from "lib"; print(inc()); print(inc());

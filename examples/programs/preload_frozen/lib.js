@@ -1,0 +1,1 @@
+export const f = Object.freeze([1, 2]);

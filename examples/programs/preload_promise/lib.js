@@ -1,0 +1,1 @@
+export let r; export const p = new Promise(f => { r = f; });

@@ -1,0 +1,5 @@
+import { print } from "host";
+const t = f => { try { return f(); } catch (e) { return e.name + ": " + e.message; } };
+print(t(() => Promise(() => 1))); print(t(() => new Promise())); print(t(() => new Promise(5))); print(t(() => Promise.prototype.then.call(1))); print(t(() => Promise.prototype.then.call({}))); print(t(() => Promise.prototype.catch.call({ then(a, b) { return typeof a + typeof b; } }, () => 1))); print(t(() => Promise.prototype.catch.call(1)));
+print(Promise.length + Promise.name + Promise.prototype.then.length + Promise.prototype.catch.length + Promise.resolve.length + Promise.reject.length); print(typeof Promise.all); print(Object.prototype.toString.call(Promise.resolve())); let rs, rj; const p = new Promise((a, b) => { rs = a; rj = b; }); print(rs.length + rs.name + rj.length + rj.name + "."); print(rs === rj); rs(p); p.catch(e => print(e + ""));
+let s; const q = new Promise(a => { s = a; }); s({ then: 1 }); q.then(v => print(typeof v)); print(t(() => rs.call(null, 1))); print(t(() => new rs())); print(Promise.resolve(1) instanceof Promise);

@@ -1,0 +1,3 @@
+import { print } from "host";
+print("p");
+export default "te" + "xt";

@@ -1,0 +1,5 @@
+import { print } from "host";
+const quick = xs => { if (xs.length < 2) return xs; const p = xs[0], rest = xs.slice(1); return quick(rest.filter(x => x < p)).concat([p], quick(rest.filter(x => x >= p))); }; print(quick([5, 2, 9, 1, 5, 6, -3, 0]).join());
+const bubble = xs => { const a = xs.slice(); for (let i = 0; i < a.length; i++) for (let j = 0; j + 1 < a.length - i; j++) if (a[j] > a[j + 1]) { const t = a[j]; a[j] = a[j + 1]; a[j + 1] = t; } return a; }; print(bubble(["pear", "apple", "fig", "banana"]).join());
+const merge = (a, b) => { const out = []; let i = 0, j = 0; while (i < a.length || j < b.length) out.push(j >= b.length || i < a.length && a[i] <= b[j] ? a[i++] : b[j++]); return out; }; const ms = a => a.length < 2 ? a : merge(ms(a.slice(0, a.length >> 1)), ms(a.slice(a.length >> 1))); print(ms([3, 1, 2, 8, 7, 5]).join());
+const rev = s => s.split("").reverse().join(""); print(rev("hello")); const isPal = s => s === rev(s); print(isPal("level") + "" + isPal("lever")); const count = {}; "mississippi".split("").forEach(c => { count[c] = (count[c] ?? 0) + 1; }); print(Object.entries(count).map(e => e[0] + e[1]).join(" "));

@@ -1,0 +1,2 @@
+import { print } from "host";
+const big = 9007199254740991; const digits = n => { let s = ""; for (let k = n; k > 0; k = (k - k % 10) / 10) s = k % 10 + s; return s; }; print(digits(big)); const safe = f => { try { return f(); } catch (e) { return e instanceof RangeError ? "range" : e.name; } }; print(safe(() => big * 2)); print(safe(() => big - 1)); print(safe(() => 3037000500 * 3037000500)); print(safe(() => 94906265 * 94906265)); print(safe(() => 0 * -5)); print(safe(() => (-5) % 5)); print(safe(() => 10 / 4)); print((10 - 10 % 4) / 4);

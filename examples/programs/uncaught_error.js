@@ -1,0 +1,3 @@
+import { print } from "host";
+print("before");
+throw new RangeError("too far");

@@ -1,0 +1,2 @@
+class E extends Error { get message() { return "hidden"; } }
+throw new E("shown");

@@ -1,0 +1,4 @@
+import { print } from "host";
+class Num { constructor(n) { this.n = n; } accept(v) { return v.num(this); } } class Bin { constructor(op, l, r) { this.op = op; this.l = l; this.r = r; } accept(v) { return v.bin(this); } }
+const show = { num: e => e.n + "", bin: e => "(" + e.l.accept(show) + e.op + e.r.accept(show) + ")" }; const evaluate = { num: e => e.n, bin: e => { const a = e.l.accept(evaluate), b = e.r.accept(evaluate); switch (e.op) { case "+": return a + b; case "-": return a - b; case "*": return a * b; default: throw new SyntaxError(e.op); } } };
+const e = new Bin("+", new Num(2), new Bin("*", new Num(3), new Bin("-", new Num(10), new Num(4)))); print(e.accept(show) + "=" + e.accept(evaluate)); try { new Bin("?", new Num(1), new Num(2)).accept(evaluate); } catch (x) { print(x + ""); }
