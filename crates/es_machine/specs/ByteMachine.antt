@@ -1,5 +1,5 @@
 -- The byte machine: frames of script functions and suspended acts, over the one state of a run.
-use Rattle.std.specs.Prelude.{ℕ, zero, suc, nat_le, nat_lt, ◌&&◌, cond, List, [], ◌∷◌, Option, Some, None}
+use Rattle.std.specs.Prelude.{ℕ, zero, suc, List, [], ◌∷◌, Option, Some, None}
 use Rattle.js_value.specs.Value.{Value, Undefined, Object}
 use Rattle.js_value.specs.Store.{Class, ScriptFunction, BuiltInFunction, ResolveFunction, RejectFunction}
 use Rattle.es_ops.specs.Intrinsics.{ObjectPrototype}
@@ -11,7 +11,9 @@ use Rattle.es_ops.specs.Events.{TheClass, reply}
 use Rattle.es_ops.specs.Act.{Act, Give, Throw, Halt, Turn, Ask, Do, Call, Try, Completion, NormalCompletion, ThrowCompletion, Calls, Ran, Ends, Halts, run, spent, returned, with_world}
 use Rattle.es_ops.specs.Errors.{raise}
 use Rattle.es_ops.specs.Calling.{may_be_called, may_be_entered, entered, super_call, create_from_constructor}
-use Rattle.es_machine.specs.ModuleCode.{Program, FunctionCode, Handler, FunctionKind, Plain, Base, Derived, DefaultDerived, function_in}
+use Rattle.byte_code.specs.declared.records.FunctionCode.{FunctionCode}
+use Rattle.byte_code.specs.declared.records.Modules.{Modules}
+use Rattle.es_machine.specs.Tables.{FunctionKind, Derived, DefaultDerived, function_in, kind_of, handler_at}
 use Rattle.es_machine.specs.Decoding.{Fetched, fetch}
 use Rattle.es_machine.specs.Frames.{Frame, Below, Instructed, Constructing, Waiting, Config, Running, Performing, Returning, Throwing, Finished, Stuck, places_at_call}
 use Rattle.es_machine.specs.Instructions.{execute, received}
@@ -19,13 +21,6 @@ use Rattle.es_machine.specs.Instructions.{execute, received}
 -- the steps of each built-in function, by its row
 abbrev pub BuiltIns : Type 0
 BuiltIns = (row function : ℕ) → (target : Option Value) → (this : Value) → (arguments : List Value) → Act
-
--- ---- handlers
-
--- the innermost handler whose range holds an offset
-abbrev pub handler_at : List Handler → ℕ → Option ℕ
-handler_at [] at = None
-handler_at (h ∷ handlers) at = cond (nat_le h.start at && nat_lt at h.end) (Some h.target) (handler_at handlers at)
 
 -- ---- acts
 
@@ -54,7 +49,7 @@ before_body f target s =
 
 -- ---- the machine
 
-module _ (program : Program) (rows : BuiltIns) where
+module _ (table : Modules) (rows : BuiltIns) where
   -- a function's body by its kind; a base constructor's object is made first
   abbrev pub begin_kind : FunctionKind → Frame → (target : Option Value) → (this : Value) → (arguments : List Value) → List Below → State → Config
   begin_kind DefaultDerived f target this arguments below s = Performing (super_call f.function target arguments Give) below s
@@ -79,11 +74,11 @@ module _ (program : Program) (rows : BuiltIns) where
   -- Own: a function whose code isn't there is no function.
   abbrev pub begin_code : Option FunctionCode → (FunctionCode → Frame) → (target : Option Value) → (this : Value) → (arguments : List Value) → List Below → State → Config
   begin_code None frame target this arguments below s = Performing (raise NotAFunction) below s
-  begin_code (Some code) frame target this arguments below s = begin_kind code.kind (frame code) target this arguments below s
+  begin_code (Some code) frame target this arguments below s = begin_kind (kind_of code) (frame code) target this arguments below s
 
   abbrev pub begin_class : Class → (function : ℕ) → (target : Option Value) → (this : Value) → (arguments : List Value) → List Below → State → Config
   begin_class (ScriptFunction module_number function_number home captured) function target this arguments below s =
-      begin_code (function_in program module_number function_number) (frame_of function module_number home captured target arguments) target this arguments below s
+      begin_code (function_in table module_number function_number) (frame_of function module_number home captured target arguments) target this arguments below s
   begin_class (BuiltInFunction row) function target this arguments below s = Performing (rows row function target this arguments) below s
   begin_class (ResolveFunction promise mark) function target this arguments below s = Performing (rows 49 function target this arguments) below s
   begin_class (RejectFunction promise mark) function target this arguments below s = Performing (rows 50 function target this arguments) below s
@@ -138,7 +133,7 @@ module _ (program : Program) (rows : BuiltIns) where
 
   abbrev pub execute_at : Option Fetched → Frame → List Below → State → Config
   execute_at None f below s = Stuck
-  execute_at (Some i) f below s = execute program f i.next below s i.op f.stack
+  execute_at (Some i) f below s = execute table f i.next below s i.op f.stack
 
   unfoldable pub step : Config → Config
   step (Running f below s) = execute_at (fetch f.code.code f.at) f below s

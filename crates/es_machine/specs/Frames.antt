@@ -1,9 +1,10 @@
 -- Frames, and how a machine stands between two steps.
-use Rattle.std.specs.Prelude.{ℕ, zero, suc, List, [], ◌∷◌, Option, Some, None, get_or, slice_get}
+use Rattle.std.specs.Prelude.{ℕ, zero, suc, cond, List, [], ◌∷◌, Option, Some, None, get_or, slice_get}
 use Rattle.js_value.specs.Value.{Value, Undefined}
 use Rattle.es_ops.specs.State.{State}
 use Rattle.es_ops.specs.Act.{Act, Completion, Ran}
-use Rattle.es_machine.specs.ModuleCode.{FunctionCode, Capture, FromPlace, FromOuter}
+use Rattle.byte_code.specs.declared.records.FunctionCode.{FunctionCode}
+use Rattle.byte_code.specs.declared.records.CodeCapture.{CodeCapture}
 
 -- ---- places
 
@@ -80,15 +81,14 @@ abbrev pub cell_of : Content → Option ℕ
 cell_of (Pointer c) = Some c
 cell_of content = None
 
-abbrev pub captured_cell : Frame → Capture → Option ℕ
-captured_cell f (FromPlace x) = cell_of (place_at f.places x)
-captured_cell f (FromOuter q) = slice_get f.outer q
+abbrev pub captured_cell : Frame → CodeCapture → Option ℕ
+captured_cell f capture = cond capture.outer (slice_get f.outer capture.at) (cell_of (place_at f.places capture.at))
 
 abbrev pub with_cell : Option ℕ → Option (List ℕ) → Option (List ℕ)
 with_cell (Some c) (Some cells) = Some (c ∷ cells)
 with_cell cell cells = None
 
 -- the cells of a function that is made here; none where a place holds no cell
-abbrev pub captured_cells : Frame → List Capture → Option (List ℕ)
+abbrev pub captured_cells : Frame → List CodeCapture → Option (List ℕ)
 captured_cells f [] = Some []
 captured_cells f (c ∷ cs) = with_cell (captured_cell f c) (captured_cells f cs)

@@ -16,8 +16,10 @@ use Rattle.es_ops.specs.References.{super_get, super_set}
 use Rattle.es_ops.specs.Calling.{super_call, this_or_raise, base_result, derived_result, or_null}
 use Rattle.es_ops.specs.Making.{FunctionCode, make_function, make_method, make_class, make_derived_class}
 use Rattle.es_ops.specs.Operate.{ValueOperation, ApplyBinary, ApplyUnary, TakeType, TestIn, TestInstance, ConvertText, ConvertKey, GetProperty, PutProperty, DeleteProperty, MakeObject, MakeArray, AppendElement, DefineMember, NameFunction, JoinTexts, CallFunction, Construct, operate}
-use Rattle.es_machine.specs.ModuleCode as m
-use Rattle.es_machine.specs.ModuleCode.{Program, FunctionKind, Derived, Plain, Arrow, name_in, function_in}
+use Rattle.byte_code.specs.declared.records.FunctionCode as code
+use Rattle.byte_code.specs.declared.records.Modules.{Modules}
+use Rattle.es_machine.specs.Tables as t
+use Rattle.es_machine.specs.Tables.{name_in, function_in, kind_of}
 use Rattle.es_machine.specs.Rows.{global_value, binary_operator, unary_operator, message_of, member_of, naming_sort}
 use Rattle.es_machine.specs.Frames.{Content, Uninitialised, Holds, Pointer, place_at, with_place, Frame, Below, Instructed, Config, Running, Performing, Throwing, Finished, Stuck, taken, cell_of, captured_cells}
 
@@ -72,11 +74,11 @@ with_cell None act = raise NotInitialised
 with_cell (Some c) act = act c
 
 -- a function's code as what makes it asks for it
-abbrev pub made_of : Program → (module_number function_number : ℕ) → m.FunctionCode → FunctionCode
-made_of program module_number function_number code = record {
+abbrev pub made_of : Modules → (module_number function_number : ℕ) → code.FunctionCode → FunctionCode
+made_of table module_number function_number code = record {
   module_number = module_number;
   function_number = function_number;
-  name = name_in program code.name;
+  name = name_in table code.name;
   parameters = code.parameters;
 }
 
@@ -85,26 +87,26 @@ by_cells None act = raise NotInitialised
 by_cells (Some cells) act = act cells
 
 -- With the code and the cells of a function of the frame's module. Own: a function that isn't there is no function.
-abbrev pub with_code : Program → Frame → ℕ → Option m.FunctionCode → (m.FunctionKind → FunctionCode → List ℕ → Act) → Act
-with_code program f n None act = raise NotAFunction
-with_code program f n (Some code) act = by_cells (captured_cells f code.captures) (act code.kind (made_of program f.module_number n code))
+abbrev pub with_code : Modules → Frame → ℕ → Option code.FunctionCode → (t.FunctionKind → FunctionCode → List ℕ → Act) → Act
+with_code table f n None act = raise NotAFunction
+with_code table f n (Some code) act = by_cells (captured_cells f code.captures) (act (kind_of code) (made_of table f.module_number n code))
 
-abbrev pub with_function : Program → Frame → ℕ → (m.FunctionKind → FunctionCode → List ℕ → Act) → Act
-with_function program f n act = with_code program f n (function_in program f.module_number n) act
+abbrev pub with_function : Modules → Frame → ℕ → (t.FunctionKind → FunctionCode → List ℕ → Act) → Act
+with_function table f n act = with_code table f n (function_in table f.module_number n) act
 
-abbrev pub function_act : m.FunctionKind → FunctionCode → List ℕ → Act
-function_act m.Arrow code cells = make_method code None cells (λ n. Give (Object n))
+abbrev pub function_act : t.FunctionKind → FunctionCode → List ℕ → Act
+function_act t.Arrow code cells = make_method code None cells (λ n. Give (Object n))
 function_act kind code cells = make_function code cells (λ n. Give (Object n))
 
 -- own: the object is tested before the cells
-abbrev pub method_act : Program → Frame → ℕ → (home : Value) → Act
-method_act program f n (Object home) = with_function program f n (λ kind code cells. make_method code (Some home) cells (λ n. Give (Object n)))
-method_act program f n home = raise NotAnObject
+abbrev pub method_act : Modules → Frame → ℕ → (home : Value) → Act
+method_act table f n (Object home) = with_function table f n (λ kind code cells. make_method code (Some home) cells (λ n. Give (Object n)))
+method_act table f n home = raise NotAnObject
 
-abbrev pub class_act : m.FunctionKind → FunctionCode → List ℕ → Act
+abbrev pub class_act : t.FunctionKind → FunctionCode → List ℕ → Act
 class_act kind code cells = make_class code cells (λ c p. Give (Object c))
 
-abbrev pub derived_class_act : Value → m.FunctionKind → FunctionCode → List ℕ → Act
+abbrev pub derived_class_act : Value → t.FunctionKind → FunctionCode → List ℕ → Act
 derived_class_act parent kind code cells = make_derived_class code cells parent (λ c p. Give (Object c))
 
 -- what a call ends with, by the function's kind (ECMA-262 10.2.1, 10.2.2)
@@ -112,13 +114,13 @@ abbrev pub constructed_or : Option Value → (this : Option Value) → (returned
 constructed_or None this v = Give v
 constructed_or (Some target) this v = this_or_raise this (λ this. base_result this v Give)
 
-abbrev pub result_of : m.FunctionKind → Frame → (returned : Value) → Act
-result_of m.Derived f v = derived_result f.this v Give
+abbrev pub result_of : t.FunctionKind → Frame → (returned : Value) → Act
+result_of t.Derived f v = derived_result f.this v Give
 result_of kind f v = constructed_or f.target f.this v
 
 -- ---- the instructions
 
-module _ (program : Program) (f : Frame) (next : ℕ) (below : List Below) (s : State) where
+module _ (table : Modules) (f : Frame) (next : ℕ) (below : List Below) (s : State) where
   abbrev pub continues : List Value → Config
   continues stack = Running (record f { at = next; stack = stack }) below s
 
@@ -145,9 +147,9 @@ module _ (program : Program) (f : Frame) (next : ℕ) (below : List Below) (s : 
   turns (suc n) stack = Running (record f { at = next; stack = stack }) below (record s { meter = n })
 
   -- own: outside a derived constructor `this` is bound already
-  abbrev pub binds : m.FunctionKind → (this : Option Value) → Value → List Value → Config
-  binds m.Derived None (Object n) stack = Running (record f { at = next; stack = Object n ∷ stack; this = Some (Object n) }) below s
-  binds m.Derived None v stack = performs (raise NotAnObject) stack
+  abbrev pub binds : t.FunctionKind → (this : Option Value) → Value → List Value → Config
+  binds t.Derived None (Object n) stack = Running (record f { at = next; stack = Object n ∷ stack; this = Some (Object n) }) below s
+  binds t.Derived None v stack = performs (raise NotAnObject) stack
   binds kind this v stack = performs (raise SuperCalledTwice) stack
 
   -- the values of a call stand on `this` and the function, of a construction on the function
@@ -168,7 +170,7 @@ module _ (program : Program) (f : Frame) (next : ℕ) (below : List Below) (s : 
   joins None = Stuck
 
   abbrev pub name_value : ℕ → Value
-  name_value n = String (name_in program n)
+  name_value n = String (name_in table n)
 
   unfoldable pub execute : Op → (stack : List Value) → Config
   execute i.Undefined stack = continues (Undefined ∷ stack)
@@ -226,14 +228,14 @@ module _ (program : Program) (f : Frame) (next : ℕ) (below : List Below) (s : 
   execute (i.Call count) stack = calls (taken count stack)
   execute (i.New count) stack = constructs (taken count stack)
   execute (i.SuperCall count) stack = constructs_parent (taken count stack)
-  execute i.BindThis (v ∷ stack) = binds f.code.kind f.this v stack
-  execute i.Return (v ∷ stack) = Performing (result_of f.code.kind f v) below s
+  execute i.BindThis (v ∷ stack) = binds (kind_of f.code) f.this v stack
+  execute i.Return (v ∷ stack) = Performing (result_of (kind_of f.code) f v) below s
   execute i.Throw (v ∷ stack) = Throwing v (Instructed f ∷ below) s
   execute (i.ThrowMessage number) stack = performs (raise (message_of number)) stack
-  execute (i.Function n) stack = performs (with_function program f n function_act) stack
-  execute (i.Method n) (k ∷ o ∷ stack) = performs (method_act program f n o) (k ∷ o ∷ stack)
-  execute (i.Class n) stack = performs (with_function program f n class_act) stack
-  execute (i.ClassExtends n) (parent ∷ stack) = performs (with_function program f n (derived_class_act parent)) stack
+  execute (i.Function n) stack = performs (with_function table f n function_act) stack
+  execute (i.Method n) (k ∷ o ∷ stack) = performs (method_act table f n o) (k ∷ o ∷ stack)
+  execute (i.Class n) stack = performs (with_function table f n class_act) stack
+  execute (i.ClassExtends n) (parent ∷ stack) = performs (with_function table f n (derived_class_act parent)) stack
   execute i.Object stack = applies MakeObject [] stack
   execute i.Array stack = applies MakeArray [] stack
   execute i.Append (v ∷ a ∷ stack) = applies AppendElement (a ∷ v ∷ []) stack

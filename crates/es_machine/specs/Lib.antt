@@ -1,4 +1,4 @@
-pub mod ModuleCode
+pub mod Tables
 pub mod Decoding
 pub mod Rows
 pub mod Frames
