@@ -4,3 +4,5 @@ pub mod Rows
 pub mod Frames
 pub mod Instructions
 pub mod ByteMachine
+pub mod Bodies
+pub mod Boot
