@@ -1,0 +1,2 @@
+//! The code of every form of the language, as definitions.
+#![tactic(auto)]
