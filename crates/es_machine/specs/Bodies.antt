@@ -25,7 +25,7 @@ use Rattle.es_machine.specs.ByteMachine.{BuiltIns, no_calls, steps}
 -- ---- modules as their graph sees them
 
 abbrev pub import_of : Modules → CodeImport → ModuleImport
-import_of table i = record { request = name_in table i.«module»; name = name_in table i.name }
+import_of table (record { «module» = source; name = name }) = record { request = name_in table source; name = name_in table name }
 
 abbrev pub export_of : Modules → CodeExport → ModuleExport
 export_of table (Local name at) = LocalExport (name_in table name) at
@@ -80,7 +80,7 @@ cell_of_resolution table w (ExportOf n place) = get_or (exported_cells (slice_ge
 cell_of_resolution table w other = 0
 
 abbrev pub imported_cell : Modules → World → CodeImport → ℕ
-imported_cell table w i = cell_of_resolution table w (resolve_export (records_in table w) (name_in table i.«module») (name_in table i.name))
+imported_cell table w i = let j = import_of table i in cell_of_resolution table w (resolve_export (records_in table w) j.request j.name)
 
 -- those of a module's top-level bindings
 abbrev pub own_cells : ModuleState → List ℕ
