@@ -25,7 +25,7 @@ use Rattle.es_machine.specs.ByteMachine.{BuiltIns, no_calls, steps}
 -- ---- modules as their graph sees them
 
 abbrev pub import_of : Modules → CodeImport → ModuleImport
-import_of table (record { «module» = source; name = name }) = record { request = name_in table source; name = name_in table name }
+import_of table i = let record { «module» = source; name = name } = i in record { request = name_in table source; name = name_in table name }
 
 abbrev pub export_of : Modules → CodeExport → ModuleExport
 export_of table (Local name at) = LocalExport (name_in table name) at
