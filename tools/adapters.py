@@ -1,5 +1,5 @@
 """How the definitions of this repository run a program, for the evaluator of definitions."""
-from javascript.adapters import NotRun, Told, told_as_record
+from javascript.adapters import Told, told_as_record
 
 # as many steps as no program of the tests comes to
 MOST_STEPS = 1 << 60
@@ -36,15 +36,13 @@ def machine(definitions, program):
         names=definitions.list(definitions.list(text) for text in names),
         modules=definitions.list(
             definitions.call('code_gen/Modules.code_of', tree, name, numbering) for name, tree in trees))
-    main = definitions.text(program.main)
-    booted = definitions.call(
-        'es_machine/Boot.booted', table, MOST_STEPS,
+    ending = definitions.plain(definitions.call(
+        'es_machine/Boot.boot', table, MOST_STEPS,
         definitions.list(definitions.text(name) for name in program.preloads), flat_limits(definitions, DEFAULT_BUDGET),
-        main, definitions.bytes(program.input), flat_limits(definitions, program.budget))
-    told = definitions.plain(definitions.call('es_machine/Boot.told', table, main, booted))
-    if told == ('None',):
-        raise NotRun('the machine is stuck')
-    return told_as_record(told[1])
+        definitions.text(program.main), definitions.bytes(program.input), flat_limits(definitions, program.budget)))
+    if ending[0] == 'Refuses':
+        return Told(3, b'')
+    return told_as_record(ending[1])
 
 
 ADAPTERS = {
