@@ -12,7 +12,8 @@ use Rattle.es_ops.specs.Related.{BothOption, BothNone, BothSome, BothObject, Bot
 use Rattle.es_ops.specs.Renaming.{Pairs, named, Kept, BothHeap, BothSides, BothEvent, BothRan, BothCalling}
 use Rattle.es_ops.proofs.Parts.{same_number}
 use Rattle.es_ops.proofs.RunsRelated.{run_related}
-use Rattle.es_ops.proofs.RepliesRelated.{chain_same, object_both, own_property_both, reply_related}
+use Rattle.es_ops.proofs.RecordsRelated.{own_property_both}
+use Rattle.es_ops.proofs.RepliesRelated.{chain_same, object_both, reply_related}
 use Rattle.es_ops.proofs.WorldsRelated.{lengths_same, object_size_same, put_both, written_both}
 use Rattle.es_ops.proofs.DeedsRelated.{Applies, Attaches, perform_related}
 use Rattle.es_ops.proofs.MethodsRelated.{BothOutcome, with_property_both, define_both, delete_both, prevent_both, freeze_both}

@@ -11,7 +11,8 @@ use Rattle.es_ops.specs.Calling.{most_depth, entered, left, body_of, may_be_call
 use Rattle.es_ops.specs.Laws.{IsWorldWellFormed, IsRanWellFormed, CallsWell}
 use Rattle.es_ops.specs.Related.{BothValue}
 use Rattle.es_ops.specs.Renaming.{Pairs, named, Extends, BothSides, BothRan, BothCalling}
-use Rattle.es_ops.proofs.Stand.{value_both, if_value_both, stands_well}
+use Rattle.es_ops.proofs.Diagonal.{value_both, if_value_both}
+use Rattle.es_ops.proofs.Stand.{stands_well}
 use Rattle.es_ops.proofs.MoreNames.{value_more as value_named, list_more, option_more}
 use Rattle.es_ops.proofs.WellFormedRuns.{spent_well, returned_well}
 use Rattle.es_ops.proofs.RunsRelated.{spent_both, returned_both}

@@ -14,7 +14,8 @@ use Rattle.es_ops.specs.Renaming.{Pairs, named, Extends, BothModule, BothHeap, B
 use Rattle.es_ops.proofs.Parts.{same_number}
 use Rattle.es_ops.proofs.MoreNames.{option_more, list_more, thing_more, job_more, module_more}
 use Rattle.es_ops.proofs.RunsRelated.{Performs}
-use Rattle.es_ops.proofs.RepliesRelated.{object_both, as_cell_both, as_mark_same}
+use Rattle.es_ops.proofs.RecordsRelated.{as_cell_both, as_mark_same}
+use Rattle.es_ops.proofs.RepliesRelated.{object_both}
 use Rattle.es_ops.proofs.WorldsRelated.{lengths_same, put_both, size_same, object_size_same, cost_past, unless_both, written_both}
 
 -- internal methods

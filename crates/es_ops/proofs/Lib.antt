@@ -17,6 +17,7 @@ mod ProgramRows
 mod PromiseRows
 pub mod Prototypes
 mod Samples
+mod BootRows
 mod ModuleGraphRows
 mod StoreRows
 pub mod TwoLedgers
@@ -29,9 +30,11 @@ pub mod Acting
 pub mod ReadsRelated
 pub mod WritesRelated
 pub mod JobsRelated
+pub mod Diagonal
 pub mod Stand
 pub mod MoreNames
 pub mod RunsRelated
+pub mod RecordsRelated
 pub mod RepliesRelated
 pub mod WorldsRelated
 pub mod DeedsRelated

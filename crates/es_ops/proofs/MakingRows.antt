@@ -4,7 +4,7 @@ use Rattle.js_value.specs.Value.{Value, Null, Number, String, Object, Text}
 use Rattle.js_value.specs.Store.{Thing, AnObject, ACell, ScriptFunction, Property, Data, Accessor}
 use Rattle.js_value.specs.declared.counts.Room.{Room}
 use Rattle.es_ops.specs.State.{some_slots, nothing}
-use Rattle.es_ops.specs.Messages.{Message, InvalidArrayLength, NotAFunction, NotAConstructor, NotAnObject, PrimitiveExpected, AccessorOnIndex, text_of_message}
+use Rattle.es_ops.specs.Messages.{Message, InvalidArrayLength, NotAFunction, NotAConstructor, NotAnObject, PrimitiveExpected, NotDefinable, AccessorOnIndex, text_of_message}
 use Rattle.es_ops.specs.Errors.{error_record}
 use Rattle.es_ops.specs.Act.{Act, Give}
 use Rattle.es_ops.specs.Making.{FunctionCode, make_method, make_function, make_class, make_derived_class, make_object, make_array, append, DataMember, GetterMember, SetterMember, define_member, name_function}
@@ -77,6 +77,14 @@ refused_appends : made (append (Object 14) Null done) 20 ∷ made (append (Objec
 unfolding computing things made done error_of
 refused_appends = refl
 
+-- at the greatest index
+last : List Thing
+last = AnObject (array_of [] 4294967294 true) ∷ []
+
+last_append : thing_after (runs (append (Object 13) Null done) last) 13 ≡ Some (AnObject (array_of ((4294967294, plain Null) ∷ []) 4294967295 true))
+unfolding computing last done
+last_append = refl
+
 members : made (define_member DataMember true (Object 14) (String (codes "a")) Null done) 14 ∷ made (define_member DataMember false (Object 14) (Number (pos 3)) Null done) 14 ∷ made (define_member GetterMember true (Object 14) (String (codes "a")) (Object 16) (define_member SetterMember true (Object 14) (String (codes "a")) (Object 17) done)) 14 ∷ []
     ≡ Some (AnObject (ordinary None ((codes "a", plain Null) ∷ []))) ∷ Some (AnObject (record (ordinary None []) { indexed = (3, hidden_data Null) ∷ [] })) ∷ Some (AnObject (ordinary None ((codes "a", record { content = Accessor (Object 16) (Object 17); enumerable = true; configurable = true }) ∷ []))) ∷ []
 unfolding computing things made done hidden_data
@@ -87,6 +95,14 @@ refused_members : map (λ p. made p 20) (define_member GetterMember true Null (O
     ≡ error_of NotAnObject ∷ error_of PrimitiveExpected ∷ error_of NotAFunction ∷ error_of AccessorOnIndex ∷ []
 unfolding computing things made done error_of
 refused_members = refl
+
+-- an array's length is converted (10.4.2.4), and then it is refused, since it isn't configurable
+converted : List Thing
+converted = AnObject (array_of [] 5 true) ∷ AnObject (ordinary None ((codes "valueOf", plain (Object 15)) ∷ [])) ∷ AnObject (function 3) ∷ []
+
+length_member : thing_after (runs (define_member DataMember false (Object 13) (String (codes "length")) (Object 14) done) converted) 16 ≡ error_of NotDefinable
+unfolding computing converted done error_of
+length_member = refl
 
 named_as : Text → Option Thing
 named_as t = Some (AnObject (record (function 1) { named = (codes "name", shown (String t)) ∷ [] }))

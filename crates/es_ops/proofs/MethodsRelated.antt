@@ -10,7 +10,7 @@ use Rattle.es_ops.specs.Equality.{same_bool}
 use Rattle.es_ops.specs.InternalMethods.{PropertyDescriptor, Outcome, refused, unchanged, wrote, is_accessor_descriptor, is_data_descriptor, is_generic_descriptor, has_fields, is_accessor, differs, differs_value, forbidden_content, forbidden, new_content, new_property, applied_content, applied, validate_and_apply_property_descriptor, ordinary_define_own_property, length_of_value, lowest_length, elements_below, lowered, set_length_to, length_set_by, raised, array_define_index, array_define_own_property, define_by_class, define_own_property, ordinary_delete, delete_own_property, prevent_extensions, freeze, all_fixed, fixed_content, fixed_class}
 use Rattle.es_ops.specs.Related.{Naming, BothOption, BothNone, BothSome, BothList, BothEmpty, BothCons, BothValue, BothUndefined, BothNull, BothBoolean, BothNumber, BothString, BothObject, BothContent, BothData, BothAccessor, BothProperty, BothEntry, BothClass, BothOrdinary, BothArray, BothScript, BothBuiltIn, BothResolve, BothReject, BothError, BothPromise, BothRecord, BothDescriptor, IsOneToOne}
 use Rattle.es_ops.proofs.WritesRelated.{same_value_related, is_some_same, length_same}
-use Rattle.es_ops.proofs.RepliesRelated.{own_property_both}
+use Rattle.es_ops.proofs.RecordsRelated.{own_property_both}
 
 pub record BothOutcome (R : Naming) (x y : Outcome) : Type 0 where
   pub answer : x.answer ≡ y.answer

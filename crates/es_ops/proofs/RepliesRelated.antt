@@ -1,84 +1,28 @@
 -- Related questions have related answers.
-use Rattle.std.proofs.Common.{◌≡◌, ℕ, zero, suc, Bool, true, false, cond, List, ◌++◌, nat_eq, arith, refl, ap, ap₂, ◌||◌, ◌∷◌, map, slice_get, Option, Some}
-use Rattle.js_value.specs.NumberText.{text_of_number}
-use Rattle.js_value.specs.Value.{Value, same_text, Key, Index, Named, Numeral}
-use Rattle.js_value.specs.Store.{Thing, Property, Content, Class, ObjectRecord, object_in, cell_in, mark_in, as_object, as_cell, as_mark, found, strings, length_entry, own_property, own_keys}
-use Rattle.js_value.specs.Order.{FitsLength, IsOrderly}
+use Rattle.std.proofs.Common.{◌≡◌, ℕ, zero, suc, true, false, refl, ap₂, ◌||◌, slice_get, Option, Some}
+use Rattle.js_value.specs.Value.{Value, Key}
+use Rattle.js_value.specs.Store.{Property, Content, object_in, cell_in, mark_in}
 use Rattle.es_ops.specs.State.{Heap}
 use Rattle.es_ops.specs.Laws.{IsHeapWellFormed}
 use Rattle.es_ops.specs.InternalMethods.{on_chain, property_from, find_property, longest, or_later, set_step, set_content, set_by_setter, set_data, set_own, set_own_content}
 use Rattle.es_ops.specs.Events.{TheClass, ThePrototype, IsExtensible, TheOwnProperty, TheOwnKey, IsOnChain, TheSort, TheCell, TheMark, TheProperty, TheSetStep, TheIntrinsic, TheInput, reply}
-use Rattle.es_ops.specs.Related.{Naming, BothOption, BothNone, BothSome, BothList, BothEmpty, BothCons, BothValue, BothUndefined, BothNull, BothBoolean, BothNumber, BothString, BothObject, BothContent, BothData, BothAccessor, BothProperty, BothEntry, BothClass, BothOrdinary, BothArray, BothScript, BothBuiltIn, BothResolve, BothReject, BothError, BothPromise, BothRecord, BothCellRecord, BothThing, BothAnObject, BothACell, BothAMark, BothSetStep, BothRefuses, BothCalls, BothDefines}
+use Rattle.es_ops.specs.Related.{BothOption, BothNone, BothSome, BothValue, BothUndefined, BothNull, BothBoolean, BothNumber, BothString, BothObject, BothContent, BothData, BothAccessor, BothProperty, BothRecord, BothSetStep, BothRefuses, BothCalls, BothDefines}
 use Rattle.es_ops.specs.Renaming.{Pairs, named, BothHeap}
+use Rattle.es_ops.proofs.RecordsRelated.{as_object_both, as_cell_both, as_mark_same, own_property_both, own_keys_same}
 use Rattle.es_ops.proofs.Parts.{same_number}
 use Rattle.es_ops.proofs.OwnKeys.{own_key_is_key}
 use Rattle.es_ops.proofs.RunsRelated.{Replies}
-
-module _ (R : Naming) where
-  pub as_object_both : {x y : Option Thing} → BothOption (BothThing R) x y → BothRecord R (as_object x) (as_object y)
-  as_object_both BothNone = record { class = BothOrdinary; prototype = BothNone; extensible = refl; indexed = BothEmpty; named = BothEmpty }
-  as_object_both (BothSome (BothAnObject h)) = h
-  as_object_both (BothSome (BothACell h)) = record { class = BothOrdinary; prototype = BothNone; extensible = refl; indexed = BothEmpty; named = BothEmpty }
-  as_object_both (BothSome BothAMark) = record { class = BothOrdinary; prototype = BothNone; extensible = refl; indexed = BothEmpty; named = BothEmpty }
-
-  pub as_cell_both : {x y : Option Thing} → BothOption (BothThing R) x y → BothCellRecord R (as_cell x) (as_cell y)
-  as_cell_both BothNone = record { value = BothSome BothUndefined; const = refl }
-  as_cell_both (BothSome (BothAnObject h)) = record { value = BothSome BothUndefined; const = refl }
-  as_cell_both (BothSome (BothACell h)) = h
-  as_cell_both (BothSome BothAMark) = record { value = BothSome BothUndefined; const = refl }
-
-  pub as_mark_same : {x y : Option Thing} → BothOption (BothThing R) x y → as_mark x ≡ as_mark y
-  as_mark_same BothNone = refl
-  as_mark_same (BothSome (BothAnObject h)) = refl
-  as_mark_same (BothSome (BothACell h)) = refl
-  as_mark_same (BothSome BothAMark) = refl
-
-  choice_both : (a b : Bool) → a ≡ b → {x y z w : Option Property} → BothOption (BothProperty R) x y → BothOption (BothProperty R) z w → BothOption (BothProperty R) (cond a x z) (cond b y w)
-  choice_both a b e {x} {y} {z} {w} h g = rw e (at b)
-    where
-      at : (b : Bool) → BothOption (BothProperty R) (cond b x z) (cond b y w)
-      at true = h
-      at false = g
-
-  pub found_both : {K : Type 0} (is : K → Bool) (es ds : List (K × Property)) → BothList (BothEntry R) es ds → BothOption (BothProperty R) (found is es) (found is ds)
-  found_both is es ds BothEmpty = BothNone
-  found_both is es ds (BothCons h hs) = choice_both _ _ (ap is h.key) (BothSome h.property) (found_both is _ _ hs)
-
-  pub strings_both : (o p : ObjectRecord) → BothRecord R o p → (c d : Class) → FitsLength c o.indexed → BothClass R c d → BothList (BothEntry R) (length_entry c ++ o.named) (length_entry d ++ p.named)
-  strings_both o p h c d f BothOrdinary = h.named
-  strings_both o p h c d f (BothArray {n = n} {b = b}) = BothCons (record { key = refl; property = record { content = BothData (BothNumber (record { bound = omega (arith, f.0) })); enumerable = refl; configurable = refl } }) h.named
-  strings_both o p h c d f (BothScript x y) = h.named
-  strings_both o p h c d f BothBuiltIn = h.named
-  strings_both o p h c d f (BothResolve x y) = h.named
-  strings_both o p h c d f (BothReject x y) = h.named
-  strings_both o p h c d f BothError = h.named
-  strings_both o p h c d f (BothPromise x y) = h.named
-
-  pub own_property_both : (o p : ObjectRecord) (key : Key) → IsOrderly o → BothRecord R o p → BothOption (BothProperty R) (own_property o key) (own_property p key)
-  unfolding own_property
-  own_property_both o p (Index i) f h = found_both (nat_eq i) o.indexed p.indexed h.indexed
-  own_property_both o p (Named t) f h = found_both (same_text t) (strings o) (strings p) (strings_both o p h o.class p.class f.length h.class)
-  own_property_both o p (Numeral n) f h = found_both (same_text (text_of_number n)) (strings o) (strings p) (strings_both o p h o.class p.class f.length h.class)
 
 module _ (ps : Pairs) (w v : Heap) (b : BothHeap ps w v) where
   pub object_both : (m n : ℕ) → named ps m n → BothRecord (named ps) (object_in w.store m) (object_in v.store n)
   unfolding object_in
   object_both m n r = as_object_both (named ps) (b.things m n r)
 
-module _ (R : Naming) where
-  keys_same : {K : Type 0} (f : K → Key) {es ds : List (K × Property)} → BothList (BothEntry R) es ds → map (λ e. f e.0) es ≡ map (λ e. f e.0) ds
-  keys_same f BothEmpty = refl
-  keys_same f (BothCons h hs) = ap₂ (λ k ks. f k ∷ ks) h.key (keys_same f hs)
-
-  pub own_keys_same : (o p : ObjectRecord) → IsOrderly o → BothRecord R o p → own_keys o ≡ own_keys p
-  own_keys_same o p f h = ap₂ (λ is ns. is ++ ns) (keys_same (λ i. Index i) h.indexed) (keys_same (λ t. Named t) (strings_both R o p h o.class p.class f.length h.class))
-
-module _ (ps : Pairs) (w v : Heap) (b : BothHeap ps w v) where
   pub chain_same : (fuel m n : ℕ) {x y : Option ℕ} → named ps m n → BothOption (named ps) x y → on_chain fuel w.store m x ≡ on_chain fuel v.store n y
   unfolding on_chain
   chain_same fuel m n r BothNone = refl
   chain_same zero m n r (BothSome s) = refl
-  chain_same (suc fuel) m n r (BothSome {x = x} {y = y} s) = ap₂ (λ a c. a || c) (same_number b.one_to_one x y m n s r) (chain_same fuel m n r (object_both ps w v b x y s).prototype)
+  chain_same (suc fuel) m n r (BothSome {x = x} {y = y} s) = ap₂ (λ a c. a || c) (same_number b.one_to_one x y m n s r) (chain_same fuel m n r (object_both x y s).prototype)
 
 module _ (ps : Pairs) (w v : Heap) (b : BothHeap ps w v) (well : IsHeapWellFormed w) where
   property_both : (fuel : ℕ) (key : Key) (m n : Option ℕ) → BothOption (named ps) m n → BothOption (BothProperty (named ps)) (property_from fuel w.store key m) (property_from fuel v.store key n)

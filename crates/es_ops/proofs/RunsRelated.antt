@@ -10,7 +10,7 @@ use Rattle.es_ops.proofs.WellFormedStores.{perform_well}
 use Rattle.es_ops.specs.Related.{Naming, BothValue, BothNormal, BothThrow, BothCompletion, BothQuestion, BothReply, BothDeed, BothAnswer}
 use Rattle.es_ops.specs.Renaming.{Pairs, named, Extends, Kept, BothWorld, BothSides, BothEvent, BothRan, BothCalling}
 use Rattle.es_ops.proofs.Parts.{shape_of}
-use Rattle.es_ops.proofs.Stand.{deed_left}
+use Rattle.es_ops.proofs.Diagonal.{deed_left}
 use Rattle.es_ops.proofs.MoreNames.{value_more, reply_more, answer_more, completion_more}
 
 abbrev pub Replies : Type 0

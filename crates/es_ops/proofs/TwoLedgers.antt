@@ -8,7 +8,7 @@ use Rattle.es_ops.specs.State.{Heap, World, State, Ledger, plus, nothing, some_s
 use Rattle.js_value.specs.declared.counts.Full.{Full}
 use Rattle.es_ops.specs.Ledger.{Event, Happens, Stops, Stop, OutOf, Budget, Depth, NoHost, charged, charged_unless, passed, written, with_thing, first_cost, with_name, name_added, name_cost, growth, created, new_name}
 use Rattle.es_ops.specs.InternalMethods.{Method, DefineOwnProperty, Delete, PreventExtensions, SetPrototypeOf, Freeze, apply_method}
-use Rattle.es_ops.specs.Events.{Question, reply, TheClass, ThePrototype, IsExtensible, TheOwnProperty, TheOwnKey, IsOnChain, TheSort, TheCell, TheMark, TheProperty, TheSetStep, TheIntrinsic, TheInput, Deed, perform, Make, Apply, Attach, SetCell, SetMark, Settle, TakeReaction, AddReaction, Enqueue, Dequeue, AddRejection, RemoveRejection, MakeText, Write, Take, apply_outcome, settle_class, take_reaction_class, react_class, make, apply, attach, set_cell, set_mark, settle, take_reaction, add_reaction, enqueue, dequeue, dequeue_from, with_rest}
+use Rattle.es_ops.specs.Events.{Question, reply, TheClass, ThePrototype, IsExtensible, TheOwnProperty, TheOwnKey, IsOnChain, TheSort, TheCell, TheMark, TheProperty, TheSetStep, TheIntrinsic, TheInput, Deed, perform, Make, Apply, Attach, SetCell, SetMark, Settle, TakeReaction, AddReaction, Enqueue, Dequeue, AddRejection, RemoveRejection, MakeText, Write, Take, apply_outcome, settle_class, take_reaction_class, react_class, make, apply, set_cell, set_mark, settle, take_reaction, add_reaction, enqueue, dequeue, dequeue_from, with_rest}
 use Rattle.es_ops.specs.Act.{Act, Give, Throw, Halt, Turn, Ask, Do, Call, Try, Completion, NormalCompletion, ThrowCompletion, Ran, Ends, Halts, Calls, with_world, spent, happened, returned, ended, run}
 use Rattle.es_ops.specs.Laws.{under, IsAlike, IsAlikeState, EndAlikeUnlessFull}
 

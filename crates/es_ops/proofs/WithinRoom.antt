@@ -9,7 +9,7 @@ use Rattle.es_ops.specs.State.{Heap, World, plus, nothing, some_slots, some_unit
 use Rattle.js_value.specs.declared.counts.Full.TheVariants.{Slots, Units, Names}
 use Rattle.es_ops.specs.Ledger.{Event, Happens, charged, charged_unless, written, with_thing, first_cost, with_name, name_added, name_cost, growth}
 use Rattle.es_ops.specs.InternalMethods.{Method, apply_method}
-use Rattle.es_ops.specs.Events.{Deed, perform, Make, Apply, Attach, SetCell, SetMark, Settle, TakeReaction, AddReaction, Enqueue, Dequeue, AddRejection, RemoveRejection, MakeText, Write, Take, make, apply, attach, set_cell, set_mark, settle, take_reaction, add_reaction, enqueue, dequeue, apply_outcome, settle_class, take_reaction_class, react_class, dequeue_from}
+use Rattle.es_ops.specs.Events.{Deed, perform, Make, Apply, Attach, SetCell, SetMark, Settle, TakeReaction, AddReaction, Enqueue, Dequeue, AddRejection, RemoveRejection, MakeText, Write, Take, make, apply, set_cell, set_mark, settle, take_reaction, add_reaction, enqueue, dequeue, apply_outcome, settle_class, take_reaction_class, react_class, dequeue_from}
 use Rattle.es_ops.specs.Laws.{IfHappens, IsWithinRoom}
 use Rattle.es_ops.proofs.OnHeap.{lifted}
 

@@ -19,6 +19,7 @@ pub mod References
 pub mod Making
 pub mod HostCalls
 pub mod ModuleGraph
+pub mod Boot
 pub mod Operate
 pub mod Laws
 pub mod Operations
