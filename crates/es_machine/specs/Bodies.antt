@@ -89,7 +89,7 @@ hoist_all table f (h ∷ hoists) s = returned (run no_calls (hoist table f h) s)
 -- ---- an engine
 
 abbrev pub with_module : Modules → ℕ → (otherwise : State → Ran) → (ModuleCode → State → Ran) → State → Ran
-with_module table n otherwise f s = elim slice_get table.modules n [ None ↦ otherwise s | Some m ↦ f m s ]
+with_module table n otherwise f s = elim (slice_get table.modules n) [ None ↦ otherwise s | Some m ↦ f m s ]
 
 abbrev pub declared_by : Option ModuleCode → List Bool
 declared_by None = []
