@@ -1,10 +1,8 @@
 -- The code of expressions (ECMA-262, 13 and 15), which leaves their value on the stack.
-use Rattle.std.specs.Prelude.{ℕ, suc, Bool, true, false, not, ◌+◌, ◌&&◌, ◌==◌, nat_le, ℤ, pos, negsuc, List, [], ◌∷◌, ◌++◌, map, length, codes, Option, Some, None}
+use Rattle.std.specs.Prelude.{ℕ, suc, Bool, true, false, ◌+◌, ◌==◌, nat_le, ℤ, pos, negsuc, List, [], ◌∷◌, map, length, codes, Option, Some, None}
 use Rattle.byte_code.specs.declared.instruction.Op.{Op}
 use Rattle.byte_code.specs.declared.instruction.Op.TheVariants as i
 use Rattle.js_value.specs.NumberText.{text_of_number}
-use Rattle.es_model.specs.declared.kinds.FunctionKind.{FunctionKind}
-use Rattle.es_model.specs.declared.kinds.FunctionKind.TheVariants as f
 use Rattle.es_model.specs.declared.kinds.MemberKind.{MemberKind}
 use Rattle.es_model.specs.declared.kinds.MemberKind.TheVariants as m
 use Rattle.es_model.specs.declared.kinds.UnaryOperator.{UnaryOperator}
@@ -17,10 +15,10 @@ use Rattle.es_model.specs.declared.place.Place.TheVariants.{Boxed}
 use Rattle.es_model.specs.Tree as t
 use Rattle.es_model.specs.Tree.{Tree, Text}
 use Rattle.es_model.specs.Functions.{FunctionForm, Written, Generated, is_constructor}
-use Rattle.es_model.specs.Scopes.{Binding, Own, Setting, bind, named as names_of, function_name, own_name}
+use Rattle.es_model.specs.Scopes.{Own, Setting, bind, named as names_of, function_name, own_name}
 use Rattle.es_model.specs.FreeNames.{receiver}
-use Rattle.code_gen.specs.Steps.{Coding, none, op, named, to, mark, labelled, all, each, ◌▸◌}
-use Rattle.code_gen.specs.Mentions.{Frame, place_in, read_name, write_name, is_unbound, read_this, initialise}
+use Rattle.code_gen.specs.Steps.{Coding, none, op, named, to, mark, labelled, each, ◌▸◌}
+use Rattle.code_gen.specs.Mentions.{Frame, place_in, read_name, write_name, is_unbound, read_this}
 
 -- ---- numbers of rows, functions and integers
 

@@ -1,23 +1,22 @@
 -- The code of functions: their kinds and names, what they begin and end with (ECMA-262, 10.2.11 and 15).
-use Rattle.std.specs.Prelude.{ℕ, zero, suc, Bool, true, false, ◌==◌, List, [], ◌∷◌, ◌++◌, map, length, codes, Option, Some, None}
+use Rattle.std.specs.Prelude.{ℕ, suc, Bool, true, false, ◌==◌, List, [], ◌∷◌, ◌++◌, length, codes, Option, Some, None}
 use Rattle.js_value.specs.NumberText.{text_of_number}
 use Rattle.byte_code.specs.declared.instruction.Op.TheVariants as i
 use Rattle.es_model.specs.declared.kinds.FunctionKind.{FunctionKind}
 use Rattle.es_model.specs.declared.kinds.FunctionKind.TheVariants as f
 use Rattle.es_model.specs.declared.kinds.MemberKind.{MemberKind}
 use Rattle.es_model.specs.declared.kinds.MemberKind.TheVariants as m
-use Rattle.es_model.specs.declared.names.Identifier.{Identifier}
 use Rattle.es_model.specs.declared.place.Capture.{Capture}
 use Rattle.es_model.specs.declared.place.Place.{Place}
 use Rattle.es_model.specs.declared.place.Place.TheVariants.{Boxed}
 use Rattle.es_model.specs.Tree as t
 use Rattle.es_model.specs.Tree.{Tree, Text}
 use Rattle.es_model.specs.Functions.{FunctionForm, Written, Generated, constructs}
-use Rattle.es_model.specs.Scopes.{Setting, Enclosing, named as names_of, declared, in_function, gather, top_setting}
-use Rattle.es_model.specs.FreeNames.{receiver, this_captured, captures}
+use Rattle.es_model.specs.Scopes.{Setting, declared, in_function, gather, top_setting}
+use Rattle.es_model.specs.FreeNames.{receiver, captures}
 use Rattle.code_gen.specs.Steps.{Step, Coding, none, op, all, each, ◌▸◌}
 use Rattle.code_gen.specs.Mentions.{Binds, Frame, frame_of, place_in, at_name}
-use Rattle.code_gen.specs.Expressions.{Expression, place_of_form, place_of_function, place_of_constructor, code}
+use Rattle.code_gen.specs.Expressions.{place_of_form, place_of_function, place_of_constructor, code}
 use Rattle.code_gen.specs.Statements.{entry, functions_of, statement}
 
 -- ---- names of functions (ECMA-262, 8.4.5)

@@ -5,3 +5,4 @@ pub mod Statements
 pub mod Assembly
 pub mod Functions
 pub mod Modules
+pub mod Faults

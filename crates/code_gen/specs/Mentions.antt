@@ -1,5 +1,5 @@
 -- The code of a mention: how a name is read, written and initialised where it is held.
-use Rattle.std.specs.Prelude.{ℕ, zero, suc, Bool, true, false, not, ◌&&◌, ◌||◌, ◌==◌, List, [], ◌∷◌, ◌++◌, map, Option, Some, None}
+use Rattle.std.specs.Prelude.{ℕ, zero, suc, Bool, true, false, not, ◌&&◌, ◌||◌, ◌==◌, List, [], ◌∷◌, map, length, Option, Some, None}
 use Rattle.std.specs.List.{list_any}
 use Rattle.byte_code.specs.declared.instruction.Op.TheVariants as i
 use Rattle.es_model.specs.declared.names.Identifier.{Identifier}
@@ -9,8 +9,8 @@ use Rattle.es_model.specs.Tokens.{place_from}
 use Rattle.es_model.specs.Tree as t
 use Rattle.es_model.specs.Tree.{Tree, Text}
 use Rattle.es_model.specs.Functions.{FunctionForm, functions}
-use Rattle.es_model.specs.Scopes.{Enclosing, Role, Binding, Setting, bind, class_name, find_binding, gather, top_setting}
-use Rattle.es_model.specs.FreeNames.{Held, HoldsBinding, HoldsTemporary, global_names, global_place, outer_list, places, captured, index_of, place_of_binding, own_place, same_round, is_top, role_number, receiver, in_arrow}
+use Rattle.es_model.specs.Scopes.{Enclosing, Binding, Setting, class_name, find_binding, gather, top_setting}
+use Rattle.es_model.specs.FreeNames.{Mention, mentions, meant, same_binding, Held, HoldsBinding, HoldsTemporary, global_names, global_place, outer_list, places, index_of, place_of_binding, own_place, same_round, is_top, role_number, receiver, in_arrow}
 use Rattle.code_gen.specs.Steps.{Coding, none, op, ◌▸◌}
 
 -- What a binding allows at a place of its function (ECMA-262, 9.1.1.1): a parameter, a function or a
@@ -64,12 +64,21 @@ pub record Frame : Type 0 where
   pub declarations : List Declared
   pub functions : List FunctionForm
 
+-- a binding is captured where a function within its own mentions it: `captured`, of mentions that are
+-- gathered once
+abbrev mentioned_within : Binding → Mention → Bool
+mentioned_within binding one =
+    elim (meant one.what) [ Some other ↦ same_binding binding other && not (length one.round == length binding.lies) | None ↦ false ]
+
+abbrev pub captured_among : List Mention → Binding → Bool
+captured_among all binding = is_top binding || list_any (mentioned_within binding) all
+
 abbrev pub frame_of : Tree (t.list t.item) → List Enclosing → Frame
 frame_of items round = record {
   round = round;
   places = places items round;
   outers = outer_list items round;
-  captured = captured items;
+  captured = captured_among (mentions items);
   declarations = declarations items;
   functions = functions items;
 }

@@ -2,7 +2,7 @@
 -- `name` is the module's name and `numbering` gives each text its number. Names go by the module's own
 -- texts, in `names`, with `own_numbering items name`, which counts from 1. The fields `code` and
 -- `handlers` of a function are bytes.
-use Rattle.std.specs.Prelude.{ℕ, suc, Bool, true, false, not, ◌||◌, ◌==◌, List, [], ◌∷◌, ◌++◌, map, codes, Option, Some, None}
+use Rattle.std.specs.Prelude.{ℕ, suc, Bool, true, false, List, [], ◌∷◌, ◌++◌, map, codes, Option, Some, None}
 use Rattle.std.specs.List.{list_any, flat_map}
 use Rattle.byte_code.specs.declared.records.CodeCapture.{CodeCapture}
 use Rattle.byte_code.specs.declared.records.CodeImport.{CodeImport}
@@ -18,9 +18,8 @@ use Rattle.es_model.specs.Tokens.{same_text}
 use Rattle.es_model.specs.Tree as t
 use Rattle.es_model.specs.Tree.{Tree, Text}
 use Rattle.es_model.specs.Functions.{FunctionForm, functions}
-use Rattle.es_model.specs.Scopes.{Binding, Top, top_bindings, find_binding, declared_by, default_names}
-use Rattle.es_model.specs.FreeNames.{index_of, role_number}
-use Rattle.code_gen.specs.Steps.{Step}
+use Rattle.es_model.specs.Scopes.{Binding, top_bindings, find_binding, declared_by, default_names}
+use Rattle.es_model.specs.FreeNames.{index_of}
 use Rattle.code_gen.specs.Assembly.{code_bytes, handler_bytes, greatest_height, texts_of}
 use Rattle.code_gen.specs.Expressions.{function_number, place_of_function}
 use Rattle.code_gen.specs.Functions.{Function, all_functions}
@@ -188,7 +187,7 @@ abbrev names_of_export : Export → List Text
 names_of_export (Own name at) = name ∷ []
 names_of_export (Other name source asked) = name ∷ source ∷ asked ∷ []
 
-abbrev mentioned_names : Tree (t.list t.item) → Text → List Function → List Text
+abbrev pub mentioned_names : Tree (t.list t.item) → Text → List Function → List Text
 mentioned_names items name functions =
     name ∷ (flat_map names_of_function functions ++ (requests items ++ (flat_map names_of_import (imports items) ++ flat_map names_of_export (exports items))))
 
@@ -247,7 +246,7 @@ abbrev pub code_of : Tree (t.list t.item) → Text → (numbering : Text → ℕ
 code_of items name numbering = module_record numbering items name (all_functions items name (functions items)) (functions items)
 
 -- the code with the module's own numbering, each function coded once
-abbrev own_code : Tree (t.list t.item) → Text → List Function → ModuleCode
+abbrev pub own_code : Tree (t.list t.item) → Text → List Function → ModuleCode
 own_code items name all = module_record (number_among (distinct (mentioned_names items name all))) items name all (functions items)
 
 abbrev pub compiled : Tree (t.list t.item) → Text → ModuleCode

@@ -1,12 +1,12 @@
 -- The code of statements (ECMA-262, 14), which find the stack empty and leave it so.
-use Rattle.std.specs.Prelude.{ℕ, suc, Bool, true, false, ◌+◌, ℤ, pos, List, [], ◌∷◌, ◌++◌, map, length, codes, Option, Some, None}
+use Rattle.std.specs.Prelude.{ℕ, suc, pos, List, [], ◌∷◌, ◌++◌, Option, Some, None}
 use Rattle.byte_code.specs.declared.instruction.Op.TheVariants as i
 use Rattle.es_model.specs.declared.names.Identifier.{Identifier}
 use Rattle.es_model.specs.declared.place.Place.{Place}
 use Rattle.es_model.specs.declared.place.Place.TheVariants.{Local, Boxed}
 use Rattle.es_model.specs.Tree as t
 use Rattle.es_model.specs.Tree.{Tree}
-use Rattle.es_model.specs.Scopes.{Inner, Setting, named as names_of, function_name, class_name, declared, declared_in_cases, declared_by_head, declared_in, declared_by_catch, default_names, within, in_body_of_loop, in_cases}
+use Rattle.es_model.specs.Scopes.{Inner, Setting, function_name, class_name, declared, declared_in_cases, declared_by_head, declared_in, declared_by_catch, default_names, within, in_body_of_loop, in_cases}
 use Rattle.code_gen.specs.Steps.{Label, Leaving, Breaking, Continuing, Returning, Exit, Coding, none, op, to, mark, handler, labelled, temporary, leaving, guarded, all, each, ◌▸◌}
 use Rattle.code_gen.specs.Mentions.{Binds, Variable, Lexical, Constant, Frame, place_of_temporary, initialise, at_name}
 use Rattle.code_gen.specs.Expressions.{Expression, integer, function_number, place_of_function, code}
