@@ -1,1 +1,11 @@
+pub mod ArgumentsRelated
+pub mod KeysRelated
+pub mod ObjectsRelated
+pub mod ArrayLikesRelated
 mod Samples
+mod ObjectRows
+mod FunctionRows
+mod NumberRows
+mod PromiseRows
+mod StringRows
+mod ArrayRows

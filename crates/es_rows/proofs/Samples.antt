@@ -1,5 +1,5 @@
 -- A small world for the rows of built-in functions, and ways to look at what a call came to.
-use Rattle.std.proofs.Common.{ℕ, Bool, true, cond, List, [], ◌∷◌, Option, Some, None, slice_get, pos, codes, ◌==◌}
+use Rattle.std.proofs.Common.{ℕ, true, false, cond, List, [], ◌∷◌, Option, Some, None, slice_get, pos, codes, ◌==◌}
 use Rattle.js_value.specs.Value.{Value, Undefined, Number, String, Object, Text, same_text}
 use Rattle.js_value.specs.Store.{Thing, AnObject, ObjectRecord, Class, Ordinary, Array, BuiltInFunction, Error, Property, Content, Data, Accessor, Store, found}
 use Rattle.js_value.specs.declared.counts.Room.{Room}

@@ -7,15 +7,15 @@ use Rattle.es_ops.specs.Errors.{make_text}
 use Rattle.es_ops.specs.Conversions.{text_expected}
 use Rattle.es_rows.specs.Arguments.{first, second, object_expected}
 use Rattle.es_rows.specs.Positions.{relative_position}
-use Rattle.es_rows.specs.ArrayLikes.{Next, array_like, get_index, if_present, create_index, set_length, each, each_with, each_present, result_array, is_array_value}
+use Rattle.es_rows.specs.ArrayLikes.{Next, array_like, length_in_range, get_index, if_present, create_index, set_length, each, each_with, each_present, result_array, is_array_value}
 
 -- 72, concat (23.1.3.2). Own: arrays alone are spread, and what is no array takes a turn. The state is the next index of the result.
 abbrev pub spread : (result item size : ℕ) → (ℕ → Act) → (to : ℕ) → Act
 spread a o size k to = each_with (λ at n next. if_present o at (λ v. create_index a n v (λ _. next (suc n))) (λ _. next (suc n))) k size 0 to
 
 abbrev pub concat_item : (result : ℕ) → Value → (is_array : Bool) → (ℕ → Act) → (to : ℕ) → Act
-concat_item a v true k to = array_like v (λ o size. spread a o size k to)
-concat_item a v false k to = Turn (create_index a to v (λ _. k (suc to)))
+concat_item a v true k to = array_like v (λ o size. length_in_range (to + size) (λ _. spread a o size k to))
+concat_item a v false k to = length_in_range (suc to) (λ _. Turn (create_index a to v (λ _. k (suc to))))
 
 abbrev pub concat_items : (result : ℕ) → List Value → (to : ℕ) → Act
 concat_items a [] to = set_length a to (λ _. Give (Object a))

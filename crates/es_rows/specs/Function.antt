@@ -10,8 +10,8 @@ use Rattle.es_rows.specs.ArrayLikes.{length_of_array_like, get_index}
 use Rattle.es_rows.specs.Table.{BuiltIn, call_row}
 
 -- 21, Function (20.2.1.1). Own: no function is made of a text.
-unfoldable pub function : BuiltIn
-function this arguments = raise NotAConstructor
+unfoldable pub function_constructor : BuiltIn
+function_constructor this arguments = raise NotAConstructor
 
 -- 22, Function.prototype (20.2.3) itself
 unfoldable pub function_prototype : BuiltIn
@@ -46,7 +46,7 @@ apply this arguments =
 -- ---- the rows
 
 abbrev pub function_functions : List (ℕ × BuiltIn)
-function_functions = (21, function) ∷ (22, function_prototype) ∷ (23, call) ∷ (24, apply) ∷ []
+function_functions = (21, function_constructor) ∷ (22, function_prototype) ∷ (23, call) ∷ (24, apply) ∷ []
 
 unfoldable pub function_row : (n : ℕ) → (function : ℕ) → (target : Option Value) → (this : Value) → (arguments : List Value) → Act
 function_row n function target this arguments = call_row function_functions n this arguments

@@ -50,8 +50,8 @@ signed_text (unit ∷ text) =
 -- step 10: `0x` before the digits
 abbrev pub has_prefix : Text → Bool
 has_prefix [] = false
-has_prefix (zero ∷ []) = false
-has_prefix (zero ∷ letter ∷ text) = (zero == 0x30) && ((letter == 0x78) || (letter == 0x58))
+has_prefix (digit ∷ []) = false
+has_prefix (digit ∷ letter ∷ text) = (digit == 0x30) && ((letter == 0x78) || (letter == 0x58))
 
 -- steps 11 and 12: the units before the first one that is no digit
 abbrev pub leading_digits : (radix : ℕ) → Text → Text
