@@ -1,0 +1,3 @@
+pub mod Samples
+mod InstructionRows
+mod ForeignRows
