@@ -1,3 +1,4 @@
 pub mod Samples
 mod InstructionRows
 mod ForeignRows
+mod CallRows

@@ -30,7 +30,7 @@ use Rattle.es_ops.specs.PropertyWrites.{define_own_property as define_with_lengt
 use Rattle.es_ops.specs.References.{require_object_coercible, get_by_value, put_by_value, delete_by_value, key_by_value, ordinary_get, super_get, super_set}
 use Rattle.es_machine.specs.Tables.{sorts_in}
 use Rattle.es_machine.specs.Decoding.{fetch}
-use Rattle.es_machine.specs.Frames.{Content, Uninitialised, Holds, Pointer, Frame, Config, Running, Finished, Below}
+use Rattle.es_machine.specs.Frames.{Holds, Pointer, Frame, Running}
 use Rattle.es_machine.specs.Instructions.{execute}
 use Rattle.es_machine.specs.ByteMachine.{BuiltIns, step, steps}
 use Rattle.es_machine.specs.Bodies.{outcome}
@@ -49,10 +49,10 @@ from_place x = record { outer = false; at = x }
 abbrev pub from_outer : ℕ → CodeCapture
 from_outer q = record { outer = true; at = q }
 
--- names: 1 is a, 2 is b, 3 the empty text
+-- names: 1 is a, 2 is b, 3 the empty text, 4 is name
 abbrev pub table_of : List FunctionCode → Modules
 table_of functions = record {
-  names = codes "a" ∷ codes "b" ∷ [] ∷ [];
+  names = codes "a" ∷ codes "b" ∷ [] ∷ codes "name" ∷ [];
   modules = record { name = 1; state = 0; requests = []; imports = []; exports = []; declared = []; hoisted = []; functions = functions; names = [] } ∷ [];
 }
 
