@@ -59,8 +59,8 @@ unfolding computing handled outside body base things
 handlers = refl
 
 -- a function that calls itself for ever: 20 units, at most 128 calls
-recursion : called 0 (i.Null ∷ i.LocalGet 0 ∷ i.LocalGet 0 ∷ i.Call 1 ∷ []) ∷ outside (code_with 0 1 [] (i.Null ∷ i.LocalGet 0 ∷ i.LocalGet 0 ∷ i.Call 1 ∷ i.Return ∷ [])) (i.Null ∷ i.LocalGet 8 ∷ i.LocalGet 8 ∷ i.Call 1 ∷ []) ∷ []
-    ≡ ThrewError (codes "not a function") ∷ Halted Budget ∷ []
+recursion : outside (code_with 0 1 [] (i.Null ∷ i.LocalGet 0 ∷ i.LocalGet 0 ∷ i.Call 1 ∷ i.Return ∷ [])) (i.Null ∷ i.LocalGet 8 ∷ i.LocalGet 8 ∷ i.Call 1 ∷ []) ∷ []
+    ≡ Halted Budget ∷ []
 unfolding computing called outside body base things
 recursion = refl
 

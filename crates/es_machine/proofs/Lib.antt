@@ -2,3 +2,4 @@ pub mod Samples
 mod InstructionRows
 mod ForeignRows
 mod CallRows
+pub mod StepLaws

@@ -4,5 +4,6 @@ pub mod Rows
 pub mod Frames
 pub mod Instructions
 pub mod ByteMachine
+pub mod Follows
 pub mod Bodies
 pub mod Boot
