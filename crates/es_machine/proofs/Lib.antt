@@ -2,4 +2,5 @@ pub mod Samples
 mod InstructionRows
 mod ForeignRows
 mod CallRows
+mod BootRows
 pub mod StepLaws
