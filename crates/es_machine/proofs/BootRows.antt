@@ -10,8 +10,7 @@ use Rattle.js_value.specs.Value.{Value, Undefined, Null, Number, Object, Text}
 use Rattle.js_value.specs.Store.{CellRecord, cell_in}
 use Rattle.js_value.specs.Job.{FulfilJob}
 use Rattle.es_ops.specs.State.{State, World, ModuleState, NotEvaluated, SetUp, Evaluated}
-use Rattle.es_ops.specs.Boot.{Started, Starts, NoPlan, Outcome, Finished, Threw, Stopped, set_up, started, gone, Told, told}
-use Rattle.es_ops.specs.Act.{Ran, Ends, Halts}
+use Rattle.es_ops.specs.Boot.{Started, Starts, NoPlan, Outcome, Finished, Threw, Stopped, set_up, evaluate, started, gone, default_export}
 use Rattle.es_ops.specs.Boot.{Engine}
 use Rattle.es_machine.specs.Bodies.{engine, body, calls}
 use Rattle.es_machine.proofs.Samples.{number, code_with, from_outer, rows, state_with, computing}
@@ -39,15 +38,20 @@ modules_of : Started → List ModuleState
 modules_of (Starts (Finished s)) = s.world.modules
 modules_of _ = []
 
-told_of : Started → List Told
-told_of (Starts outcome) = told the_engine (codes "a") (gone the_engine None outcome) ∷ []
-told_of (NoPlan fault) = []
+-- main's default export once no job is left
+export_of : Outcome → Option Value
+export_of (Finished s) = default_export the_engine (codes "a") s
+export_of _ = None
+
+result_of : Started → Option Value
+result_of (Starts outcome) = export_of (gone the_engine None outcome)
+result_of (NoPlan fault) = None
 
 -- the cells are 22 and 23; of them 22 is exported
 evaluated : modules_of (started the_engine (codes "a") begin) ≡ Evaluated (22 ∷ []) ∷ []
-unfolding computing started set_up body calls functions table begin the_engine modules_of
+unfolding computing started set_up evaluate body calls functions table begin the_engine modules_of
 evaluated = refl
 
-result : told_of (started the_engine (codes "a") begin) ≡ record { status = 0; bytes = codes "result: 7" ++ 10 ∷ [] } ∷ []
-unfolding computing started set_up body calls gone told functions table begin the_engine told_of
+result : result_of (started the_engine (codes "a") begin) ≡ Some (number 7)
+unfolding computing started set_up evaluate body calls gone functions table begin the_engine result_of export_of
 result = refl

@@ -1,5 +1,5 @@
 -- Steps one after another, and the run of an act by the machine.
-use Rattle.std.proofs.Common.{◌≡◌, ◌≤◌, ℕ, zero, suc, ◌+◌, List, Option, refl, sym, ◌∙◌, subst, arith}
+use Rattle.std.proofs.Common.{◌≡◌, ◌≤◌, ℕ, zero, suc, List, Option, refl, sym, subst, arith}
 use Rattle.byte_code.specs.declared.records.Modules.{Modules}
 use Rattle.js_value.specs.Value.{Value}
 use Rattle.es_ops.specs.State.{World, State}
@@ -24,15 +24,16 @@ module _ (table : Modules) (rows : BuiltIns) where
   stuck_stays (suc n) = refl
 
   -- more steps change no end
-  pub more_steps : (m n : ℕ) (c : Config) (ran : Ran) → steps table rows m c ≡ Finished ran → steps table rows (m + n) c ≡ Finished ran
+  pub more_steps : (m n : ℕ) (c : Config) (ran : Ran) → m ≤ n → steps table rows m c ≡ Finished ran → steps table rows n c ≡ Finished ran
   unfolding steps
-  more_steps zero n c ran eq = subst (λ x. steps table rows n x ≡ Finished ran) (sym eq) (finished_stays n ran)
-  more_steps (suc m) n (Finished other) ran eq = finished_stays (suc m + n) other ∙ eq
-  more_steps (suc m) n Stuck ran eq = stuck_stays (suc m + n) ∙ eq
-  more_steps (suc m) n (Running f below s) ran eq = more_steps m n (step table rows (Running f below s)) ran eq
-  more_steps (suc m) n (Performing act below s) ran eq = more_steps m n (step table rows (Performing act below s)) ran eq
-  more_steps (suc m) n (Returning v below s) ran eq = more_steps m n (step table rows (Returning v below s)) ran eq
-  more_steps (suc m) n (Throwing v below s) ran eq = more_steps m n (step table rows (Throwing v below s)) ran eq
+  more_steps zero n c ran le eq = subst (λ x. steps table rows n x ≡ Finished ran) (sym eq) (finished_stays n ran)
+  more_steps (suc m) zero c ran le eq = absurd (omega (arith, le))
+  more_steps (suc m) (suc n) (Finished other) ran le eq = eq
+  more_steps (suc m) (suc n) Stuck ran le eq = eq
+  more_steps (suc m) (suc n) (Running f below s) ran le eq = more_steps m n (step table rows (Running f below s)) ran (omega (arith, le)) eq
+  more_steps (suc m) (suc n) (Performing act below s) ran le eq = more_steps m n (step table rows (Performing act below s)) ran (omega (arith, le)) eq
+  more_steps (suc m) (suc n) (Returning v below s) ran le eq = more_steps m n (step table rows (Returning v below s)) ran (omega (arith, le)) eq
+  more_steps (suc m) (suc n) (Throwing v below s) ran le eq = more_steps m n (step table rows (Throwing v below s)) ran (omega (arith, le)) eq
 
   pub one : (c : Config) → Comes table rows c (step table rows c)
   unfolding step steps
