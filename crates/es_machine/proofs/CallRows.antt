@@ -7,8 +7,10 @@ use Rattle.js_value.specs.Value.{Value, Undefined, Null, Boolean, Number, String
 use Rattle.js_value.specs.Store.{Thing, ScriptFunction, Array}
 use Rattle.es_ops.specs.Ledger.{Budget, Depth}
 use Rattle.es_ops.specs.Act.{Ran, Ends, Halts}
-use Rattle.es_machine.specs.Frames.{Frame}
-use Rattle.es_machine.proofs.Samples.{number, code_with, from_place, from_outer, frame_of, run_frame, with_class, plain, ordinary, Came, Gave, Threw, ThrewError, Halted, came, computing}
+use Rattle.es_machine.specs.Frames.{Running}
+use Rattle.es_machine.specs.ByteMachine.{steps}
+use Rattle.es_machine.specs.Bodies.{outcome}
+use Rattle.es_machine.proofs.Samples.{number, code_with, from_place, from_outer, frame_of, table_of, state_with, rows, run_frame, with_class, plain, ordinary, Came, Gave, Threw, ThrewError, Halted, came, computing}
 
 -- 22 is a function of this kind and code whose `prototype` is 13 and whose own prototype is 23, a base constructor of
 -- function 2, which gives its `this`
@@ -63,6 +65,14 @@ recursion : outside (code_with 0 1 [] (i.Null ∷ i.LocalGet 0 ∷ i.LocalGet 0 
     ≡ Halted Budget ∷ []
 unfolding computing called outside body base things
 recursion = refl
+
+-- a call at depth 127 is the 128th, and one at depth 128 stops the run, after its unit was taken
+deep : (depth : ℕ) → Came
+deep depth = let table = table_of [] in let s = record (state_with table []) { depth = depth } in came (outcome s (steps table rows 200 (Running (frame_of (body (i.Null ∷ i.LocalGet 2 ∷ i.Call 0 ∷ []))) [] s)))
+
+depths : deep 127 ∷ deep 128 ∷ [] ≡ Gave Null ∷ Halted Depth ∷ []
+unfolding computing deep body
+depths = refl
 
 -- ---- functions and classes that are made, of function 1 with a cell of the place 5 and one of the outer cells
 

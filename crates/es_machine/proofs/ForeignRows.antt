@@ -1,11 +1,11 @@
 -- What only code that no compiler wrote meets (own), once each.
-use Rattle.std.proofs.Common.{◌≡◌, List, [], ◌∷◌, ◌++◌, true, false, refl, Some, None, pos, codes}
+use Rattle.std.proofs.Common.{◌≡◌, ℕ, List, [], ◌∷◌, ◌++◌, true, false, refl, Some, None, pos, codes}
 use Rattle.byte_code.specs.declared.instruction.Op.{Op}
 use Rattle.byte_code.specs.declared.instruction.Op.TheVariants as i
 use Rattle.js_value.specs.Value.{Value, Undefined, Null, Boolean, Number, String, Object}
-use Rattle.js_value.specs.Store.{Thing, Array}
+use Rattle.js_value.specs.Store.{Thing, AnObject, Array, BuiltInFunction, Data}
 use Rattle.es_machine.specs.Frames.{Frame}
-use Rattle.es_machine.proofs.Samples.{number, code_with, from_place, from_outer, frame_of, run_frame, with_class, Came, Gave, Threw, ThrewError, came, gives, computing}
+use Rattle.es_machine.proofs.Samples.{number, code_with, from_place, from_outer, frame_of, run_frame, with_class, plain, Came, Gave, Threw, ThrewError, came, gives, computing}
 
 -- a place that is uninitialised, and one that holds a cell
 no_value : gives (i.LocalGet 8 ∷ []) ∷ gives (i.LocalGet 5 ∷ []) ∷ gives (i.LocalCheck 5 ∷ i.True ∷ []) ∷ []
@@ -52,6 +52,29 @@ members : gives (i.LocalGet 0 ∷ i.Null ∷ i.Append ∷ []) ∷ gives (i.Null 
     ≡ ThrewError (codes "not an object") ∷ ThrewError (codes "not an object") ∷ ThrewError (codes "not a function") ∷ ThrewError (codes "primitive expected") ∷ ThrewError (codes "primitive expected") ∷ []
 unfolding computing
 members = refl
+
+-- arrays: 22 has the greatest length, 23 a length that isn't writable, 24 isn't extensible
+arrays : List Thing
+arrays = with_class (Array 4294967295 true) None [] ∷ with_class (Array 0 false) None [] ∷ AnObject (record { class = Array 0 true; prototype = None; extensible = false; indexed = []; named = [] }) ∷ []
+
+appended : (array : ℕ) → Came
+appended array = came (run_frame [] arrays (record (frame_of (code_with 0 0 [] (i.Null ∷ i.Append ∷ i.Return ∷ []))) { stack = Object array ∷ [] }))
+
+no_room : appended 22 ∷ appended 23 ∷ appended 24 ∷ []
+    ≡ ThrewError (codes "invalid array length") ∷ ThrewError (codes "property cannot be defined") ∷ ThrewError (codes "property cannot be defined") ∷ []
+unfolding computing appended arrays
+no_room = refl
+
+-- 22 is a function whose own `name` is empty and not configurable, 23 one with a name
+named : List Thing
+named = with_class (BuiltInFunction 1) None ((codes "name", record { content = Data (String []) false; enumerable = false; configurable = false }) ∷ []) ∷ with_class (BuiltInFunction 1) None ((codes "name", plain (String (codes "b"))) ∷ []) ∷ []
+
+name_after : (function : ℕ) → Came
+name_after function = came (run_frame [] named (record (frame_of (code_with 0 0 [] (i.NameIt 0 ∷ i.Get 4 ∷ i.Return ∷ []))) { stack = Object function ∷ String (codes "a") ∷ [] }))
+
+kept_names : name_after 22 ∷ name_after 23 ∷ [] ≡ Gave (String []) ∷ Gave (String (codes "b")) ∷ []
+unfolding computing name_after named
+kept_names = refl
 
 -- what is no function keeps its name, and a function's key may not be an object
 naming : gives (i.Text 1 ∷ i.LocalGet 0 ∷ i.NameIt 0 ∷ i.Pop ∷ []) ∷ gives (i.Text 1 ∷ i.LocalGet 0 ∷ i.NameIt 0 ∷ []) ∷ gives (i.LocalGet 0 ∷ i.LocalGet 2 ∷ i.NameIt 0 ∷ []) ∷ []
