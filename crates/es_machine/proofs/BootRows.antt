@@ -1,16 +1,12 @@
 -- Set-up, bodies and jobs by the machine, and a whole boot.
-use Rattle.std.proofs.Common.{◌≡◌, ℕ, List, [], ◌∷◌, ◌++◌, true, false, refl, Option, Some, None, pos, codes}
-use Rattle.byte_code.specs.declared.instruction.Op.{Op}
+use Rattle.std.proofs.Common.{◌≡◌, List, [], ◌∷◌, true, false, refl, Option, Some, None, pos, codes}
 use Rattle.byte_code.specs.declared.instruction.Op.TheVariants as i
 use Rattle.byte_code.specs.declared.records.FunctionCode.{FunctionCode}
-use Rattle.byte_code.specs.declared.records.ModuleCode.{ModuleCode}
 use Rattle.byte_code.specs.declared.records.Modules.{Modules}
 use Rattle.byte_code.specs.declared.records.CodeExport.TheVariants.{Local}
-use Rattle.js_value.specs.Value.{Value, Undefined, Null, Number, Object, Text}
-use Rattle.js_value.specs.Store.{CellRecord, cell_in}
-use Rattle.js_value.specs.Job.{FulfilJob}
-use Rattle.es_ops.specs.State.{State, World, ModuleState, NotEvaluated, SetUp, Evaluated}
-use Rattle.es_ops.specs.Boot.{Started, Starts, NoPlan, Outcome, Finished, Threw, Stopped, set_up, evaluate, started, gone, default_export}
+use Rattle.js_value.specs.Value.{Value}
+use Rattle.es_ops.specs.State.{State, ModuleState, NotEvaluated, Evaluated}
+use Rattle.es_ops.specs.Boot.{Started, Starts, NoPlan, Outcome, Finished, set_up, evaluate, started, gone, default_export}
 use Rattle.es_ops.specs.Boot.{Engine}
 use Rattle.es_machine.specs.Bodies.{engine, body, calls}
 use Rattle.es_machine.proofs.Samples.{number, code_with, from_outer, rows, state_with, computing}

@@ -1,16 +1,15 @@
 -- Calls of script functions, constructions, handlers, and functions and classes that are made.
-use Rattle.std.proofs.Common.{◌≡◌, ℕ, List, [], ◌∷◌, ◌++◌, true, false, refl, Some, None, pos, codes}
+use Rattle.std.proofs.Common.{◌≡◌, ℕ, List, [], ◌∷◌, ◌++◌, refl, Some, None, pos, codes}
 use Rattle.byte_code.specs.declared.instruction.Op.{Op}
 use Rattle.byte_code.specs.declared.instruction.Op.TheVariants as i
 use Rattle.byte_code.specs.declared.records.FunctionCode.{FunctionCode}
-use Rattle.js_value.specs.Value.{Value, Undefined, Null, Boolean, Number, String, Object}
-use Rattle.js_value.specs.Store.{Thing, ScriptFunction, Array}
+use Rattle.js_value.specs.Value.{Undefined, Null, String, Object}
+use Rattle.js_value.specs.Store.{Thing, ScriptFunction}
 use Rattle.es_ops.specs.Ledger.{Budget, Depth}
-use Rattle.es_ops.specs.Act.{Ran, Ends, Halts}
 use Rattle.es_machine.specs.Frames.{Running}
 use Rattle.es_machine.specs.ByteMachine.{steps}
 use Rattle.es_machine.specs.Bodies.{outcome}
-use Rattle.es_machine.proofs.Samples.{number, code_with, from_place, from_outer, frame_of, table_of, state_with, rows, run_frame, with_class, plain, ordinary, Came, Gave, Threw, ThrewError, Halted, came, computing}
+use Rattle.es_machine.proofs.Samples.{number, code_with, from_place, from_outer, frame_of, table_of, state_with, rows, run_frame, with_class, plain, Came, Gave, Threw, ThrewError, Halted, came, computing}
 
 -- 22 is a function of this kind and code whose `prototype` is 13 and whose own prototype is 23, a base constructor of
 -- function 2, which gives its `this`

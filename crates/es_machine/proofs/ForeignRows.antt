@@ -1,11 +1,10 @@
 -- What only code that no compiler wrote meets (own), once each.
-use Rattle.std.proofs.Common.{◌≡◌, ℕ, List, [], ◌∷◌, ◌++◌, true, false, refl, Some, None, pos, codes}
+use Rattle.std.proofs.Common.{◌≡◌, ℕ, List, [], ◌∷◌, ◌++◌, true, false, refl, None, codes}
 use Rattle.byte_code.specs.declared.instruction.Op.{Op}
 use Rattle.byte_code.specs.declared.instruction.Op.TheVariants as i
-use Rattle.js_value.specs.Value.{Value, Undefined, Null, Boolean, Number, String, Object}
+use Rattle.js_value.specs.Value.{Undefined, Boolean, String, Object}
 use Rattle.js_value.specs.Store.{Thing, AnObject, Array, BuiltInFunction, Data}
-use Rattle.es_machine.specs.Frames.{Frame}
-use Rattle.es_machine.proofs.Samples.{number, code_with, from_place, from_outer, frame_of, run_frame, with_class, plain, Came, Gave, Threw, ThrewError, came, gives, computing}
+use Rattle.es_machine.proofs.Samples.{code_with, from_place, frame_of, run_frame, with_class, plain, Came, Gave, ThrewError, came, gives, computing}
 
 -- a place that is uninitialised, and one that holds a cell
 no_value : gives (i.LocalGet 8 ∷ []) ∷ gives (i.LocalGet 5 ∷ []) ∷ gives (i.LocalCheck 5 ∷ i.True ∷ []) ∷ []

@@ -1,10 +1,10 @@
 -- Each instruction of a frame's stack, places, cells, properties and operators. What is expected is worked out from the
 -- table of instructions.
-use Rattle.std.proofs.Common.{◌≡◌, List, [], ◌∷◌, true, false, refl, Some, None, pos, neg_ℤ, codes}
+use Rattle.std.proofs.Common.{◌≡◌, [], ◌∷◌, true, false, refl, pos, neg_ℤ, codes}
 use Rattle.byte_code.specs.declared.instruction.Op.TheVariants as i
-use Rattle.js_value.specs.Value.{Value, Undefined, Null, Boolean, Number, String, Object}
+use Rattle.js_value.specs.Value.{Undefined, Null, Boolean, Number, String, Object}
 use Rattle.es_ops.specs.Ledger.{Budget}
-use Rattle.es_machine.proofs.Samples.{number, Came, Gave, Threw, ThrewError, Halted, gives, computing}
+use Rattle.es_machine.proofs.Samples.{number, Gave, Threw, ThrewError, Halted, gives, computing}
 
 constants : gives (i.Undefined ∷ []) ∷ gives (i.Null ∷ []) ∷ gives (i.True ∷ []) ∷ gives (i.False ∷ []) ∷ gives (i.Int (neg_ℤ (pos 3)) ∷ []) ∷ gives (i.Mid (pos 70000) ∷ []) ∷ gives (i.Long (pos 5000000000) ∷ []) ∷ gives (i.Text 1 ∷ []) ∷ gives (i.This ∷ []) ∷ []
     ≡ Gave Undefined ∷ Gave Null ∷ Gave (Boolean true) ∷ Gave (Boolean false) ∷ Gave (Number (neg_ℤ (pos 3))) ∷ Gave (number 70000) ∷ Gave (number 5000000000) ∷ Gave (String (codes "a")) ∷ Gave (Object 13) ∷ []

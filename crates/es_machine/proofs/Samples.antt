@@ -4,17 +4,16 @@ use Rattle.byte_code.specs.declared.instruction.Op.{Op}
 use Rattle.byte_code.specs.declared.instruction.Op.TheVariants.{Return}
 use Rattle.byte_code.specs.declared.records.FunctionCode.{FunctionCode}
 use Rattle.byte_code.specs.declared.records.CodeCapture.{CodeCapture}
-use Rattle.byte_code.specs.declared.records.ModuleCode.{ModuleCode}
 use Rattle.byte_code.specs.declared.records.Modules.{Modules}
 use Rattle.byte_code.specs.Instructions.{spelling}
-use Rattle.js_value.specs.Value.{Value, Undefined, Number, String, Object, Text, same_text}
-use Rattle.js_value.specs.Store.{Thing, AnObject, ACell, ObjectRecord, CellRecord, Class, Ordinary, Array, ScriptFunction, BuiltInFunction, Property, Content, Data, Accessor, Store, found, object_in, cell_in, mark_in, own_property, with_property, without_property, is_frozen}
+use Rattle.js_value.specs.Value.{Value, Number, String, Object, Text, same_text}
+use Rattle.js_value.specs.Store.{Thing, AnObject, ACell, Class, Ordinary, Array, BuiltInFunction, Property, Content, Data, Store, found, object_in, cell_in, mark_in, own_property, with_property, without_property, is_frozen}
 use Rattle.js_value.specs.declared.counts.Room.{Room}
 use Rattle.js_value.specs.Literal.{literal_number, digits_number}
 use Rattle.js_value.specs.Numeral.{is_white_space}
-use Rattle.es_ops.specs.State.{World, State, nothing}
+use Rattle.es_ops.specs.State.{State, nothing}
 use Rattle.es_ops.specs.Ledger.{Stop, written}
-use Rattle.es_ops.specs.Act.{Act, Give, Throw, Ran, Ends, Halts, NormalCompletion, ThrowCompletion, run}
+use Rattle.es_ops.specs.Act.{Give, Throw, Ran, Ends, Halts, NormalCompletion, ThrowCompletion, run}
 use Rattle.es_ops.specs.Bindings.{initialize_cell, read_cell, write_cell, copy_cell, make_cell}
 use Rattle.es_ops.specs.Calling.{is_constructor, may_be_called, may_be_entered, construct, super_call, create_from_constructor, base_result, derived_result}
 use Rattle.es_ops.specs.Conversions.{to_primitive, to_number, to_string, to_property_key, number_expected, text_expected, key_expected, loosely_equal_within, is_loosely_equal}

@@ -1,14 +1,14 @@
 -- Steps one after another, and the run of an act by the machine.
-use Rattle.std.proofs.Common.{◌≡◌, ◌≤◌, ℕ, zero, suc, List, Option, refl, sym, subst, arith}
+use Rattle.std.proofs.Common.{◌≡◌, ◌≤◌, ℕ, zero, suc, List, refl, sym, subst, arith}
 use Rattle.byte_code.specs.declared.records.Modules.{Modules}
 use Rattle.js_value.specs.Value.{Value}
 use Rattle.es_ops.specs.State.{World, State}
-use Rattle.es_ops.specs.Ledger.{Event, Happens, Stops, Stop, OutOf}
+use Rattle.es_ops.specs.Ledger.{Event, Happens, Stops, Stop}
 use Rattle.es_ops.specs.Events as event
 use Rattle.es_ops.specs.Events.{reply}
 use Rattle.es_ops.specs.Act.{Act, Give, Throw, Halt, Turn, Ask, Do, Call, Try, Completion, NormalCompletion, ThrowCompletion, Calls, Ran, Ends, Halts, run, spent, happened, returned, ended, with_world}
 use Rattle.es_machine.specs.Frames.{Below, Config, Running, Performing, Returning, Throwing, Finished, Stuck}
-use Rattle.es_machine.specs.ByteMachine.{BuiltIns, step, steps, turned, happens, passing, called}
+use Rattle.es_machine.specs.ByteMachine.{BuiltIns, step, steps, turned, happens, passing}
 use Rattle.es_machine.specs.Follows.{Comes, EndsWith, GoesOn, CallsFollow}
 
 module _ (table : Modules) (rows : BuiltIns) where

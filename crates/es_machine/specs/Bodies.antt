@@ -1,5 +1,5 @@
 -- Modules by the byte machine: their bodies, the set-up of their functions, and calls from outside; the engine of a boot.
-use Rattle.std.specs.Prelude.{ℕ, Bool, true, false, List, [], ◌∷◌, ◌++◌, map, get_or, slice_get, Option, Some, None}
+use Rattle.std.specs.Prelude.{ℕ, Bool, true, List, [], ◌∷◌, ◌++◌, map, get_or, slice_get, Option, Some, None}
 use Rattle.byte_code.specs.declared.records.FunctionCode.{FunctionCode}
 use Rattle.byte_code.specs.declared.records.ModuleCode.{ModuleCode}
 use Rattle.byte_code.specs.declared.records.Modules.{Modules}
@@ -7,9 +7,9 @@ use Rattle.byte_code.specs.declared.records.CodeHoist.{CodeHoist}
 use Rattle.byte_code.specs.declared.records.CodeImport.{CodeImport}
 use Rattle.byte_code.specs.declared.records.CodeExport.{CodeExport}
 use Rattle.byte_code.specs.declared.records.CodeExport.TheVariants.{Local, From}
-use Rattle.js_value.specs.Value.{Value, Undefined, Object}
+use Rattle.js_value.specs.Value.{Undefined, Object}
 use Rattle.es_ops.specs.Intrinsics.{PrintCell, ReadCell}
-use Rattle.es_ops.specs.State.{State, World, ModuleState, NotEvaluated, SetUp, Evaluated, Preloaded, cells_of}
+use Rattle.es_ops.specs.State.{State, World, cells_of}
 use Rattle.es_ops.specs.Ledger.{Budget}
 use Rattle.es_ops.specs.Events.{TheIntrinsic, reply}
 use Rattle.es_ops.specs.Act.{Act, Give, Call, NormalCompletion, Calls, Ran, Ends, Halts, returned, run}

@@ -1,9 +1,8 @@
 -- Booting a set of modules by the byte machine: the start, and what is told.
-use Rattle.std.specs.Prelude.{ℕ, List, [], map, Option, Some, None}
+use Rattle.std.specs.Prelude.{ℕ, List, [], map, Some, None}
 use Rattle.byte_code.specs.declared.records.Modules.{Modules}
 use Rattle.js_value.specs.Value.{Text}
 use Rattle.es_ops.specs.State.{State, Limits, NotEvaluated, nothing, room_of}
-use Rattle.es_ops.specs.ModuleGraph.{GraphFault}
 use Rattle.es_ops.specs.Boot.{Engine, Preloading, Ready, Refused, Refusal, OfGraph, preloaded, Started, Starts, NoPlan, started, gone, Told, told}
 use Rattle.es_rows.specs.BuiltIns.{row}
 use Rattle.es_rows.specs.Realm.{realm_store, realm_places}

@@ -1,5 +1,5 @@
 -- Instructions read from a code's bytes: the table of instructions by their numbers.
-use Rattle.std.specs.Prelude.{ℕ, ◌+◌, ℤ, List, [], ◌∷◌, length, drop, get_or, slice_get, Option, Some, None}
+use Rattle.std.specs.Prelude.{ℕ, ◌+◌, List, [], ◌∷◌, length, drop, get_or, slice_get, Option, Some, None}
 use Rattle.std.specs.Int.{w8, w32, w64, cast_signed}
 use Rattle.byteorder.specs.Endian.{big_number}
 use Rattle.byte_code.specs.declared.instruction.Op.{Op}

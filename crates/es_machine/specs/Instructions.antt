@@ -2,12 +2,12 @@
 use Rattle.std.specs.Prelude.{ℕ, zero, suc, Bool, true, false, List, [], ◌∷◌, Option, Some, None, slice_get, not}
 use Rattle.byte_code.specs.declared.instruction.Op.{Op}
 use Rattle.byte_code.specs.declared.instruction.Op.TheVariants as i
-use Rattle.js_value.specs.Value.{Value, Undefined, Null, Boolean, Number, String, Object, is_object}
+use Rattle.js_value.specs.Value.{Value, Undefined, Null, Boolean, Number, String, Object}
 use Rattle.js_value.specs.Store.{Class, ScriptFunction}
 use Rattle.es_ops.specs.State.{World, State}
 use Rattle.es_ops.specs.Ledger.{Budget}
 use Rattle.es_ops.specs.Events.{TheClass, reply}
-use Rattle.es_ops.specs.Act.{Act, Give, Halts, Ran}
+use Rattle.es_ops.specs.Act.{Act, Give, Halts}
 use Rattle.es_ops.specs.Errors.{raise}
 use Rattle.es_ops.specs.Messages.{NotInitialised, SuperCalledTwice, NotAnObject, NotAFunction}
 use Rattle.es_ops.specs.Conversions.{to_boolean}

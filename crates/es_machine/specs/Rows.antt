@@ -1,6 +1,6 @@
 -- What the numbers of rows and modes stand for: globals, operators, messages, members (own).
 use Rattle.std.specs.Prelude.{ℕ, ◌-◌, Bool, true, false, List, [], ◌∷◌, get_or, Option, Some, None}
-use Rattle.js_value.specs.Value.{Value, Undefined, Object}
+use Rattle.js_value.specs.Value.{Undefined, Object}
 use Rattle.es_ops.specs.Intrinsics.{Intrinsic, MathObject, ObjectFunction, FunctionFunction, ErrorFunction, RangeErrorFunction, ReferenceErrorFunction, SyntaxErrorFunction, TypeErrorFunction, BooleanFunction, NumberFunction, ParseIntFunction, PromiseFunction, StringFunction, ArrayFunction}
 use Rattle.es_ops.specs.Messages.{Message, NumberOutOfRange, StringTooLong, InvalidArrayLength, InvalidArgument, NotDefined, NotInitialised, EmptyArray, SuperCalledTwice, AssignmentToConstant, NotAFunction, NotAConstructor, CalledWithoutNew, NoProperties, NotWritable, NotDefinable, NotDeletable, NotAnObject, NoPrimitiveValue, PrimitiveExpected, AccessorOnIndex, PrototypeNotSettable, ResolvedWithItself, WrongReceiver, ReturnedPrimitive}
 use Rattle.es_ops.specs.Operators.{BinaryOperator, Add, Numeric, Relational, Equal, NotEqual, StrictEqual, StrictNotEqual, Subtract, Multiply, Divide, Remainder, Power, BitAnd, BitOr, BitXor, ShiftLeft, ShiftRight, ShiftRightUnsigned, Less, Greater, LessOrEqual, GreaterOrEqual, UnaryOperator, Not, Negate, Plus, BitNot}
