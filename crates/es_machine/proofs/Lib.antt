@@ -4,3 +4,4 @@ mod ForeignRows
 mod CallRows
 mod BootRows
 pub mod StepLaws
+pub mod DecodingLaws

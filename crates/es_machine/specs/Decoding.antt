@@ -1,5 +1,5 @@
 -- Instructions read from a code's bytes: the table of instructions by their numbers.
-use Rattle.std.specs.Prelude.{ℕ, ◌+◌, List, [], ◌∷◌, length, drop, get_or, slice_get, Option, Some, None}
+use Rattle.std.specs.Prelude.{ℕ, ◌+◌, List, [], ◌∷◌, length, drop, slice_get, slice_index, Option, Some, None}
 use Rattle.std.specs.Int.{w8, w32, w64, cast_signed}
 use Rattle.byteorder.specs.Endian.{big_number}
 use Rattle.byte_code.specs.declared.instruction.Op.{Op}
@@ -8,7 +8,7 @@ use Rattle.byte_code.specs.Instructions.{spelling}
 
 -- the number that stands first, in one byte or in two
 abbrev pub byte : List ℕ → ℕ
-byte bytes = get_or bytes 0 0
+byte bytes = slice_index bytes 0
 
 abbrev pub pair : List ℕ → ℕ
 pair bytes = big_number 2 bytes
@@ -40,9 +40,12 @@ pub record Fetched : Type 0 where
   pub op : Op
   pub next : ℕ
 
+abbrev pub fetched : Op → ℕ → Fetched
+fetched op at = record { op = op; next = at + length (spelling op) }
+
 abbrev pub read_by : Option (List ℕ → Op) → List ℕ → ℕ → Option Fetched
 read_by None bytes at = None
-read_by (Some reader) bytes at = let op = reader bytes in Some (record { op = op; next = at + length (spelling op) })
+read_by (Some reader) bytes at = Some (fetched (reader bytes) at)
 
 abbrev pub decoded : List ℕ → ℕ → Option Fetched
 decoded [] at = None
