@@ -1,5 +1,5 @@
 -- Steps one after another, and the run of an act by the machine.
-use Rattle.std.proofs.Common.{◌≡◌, ◌≤◌, ℕ, zero, suc, List, refl, sym, subst, arith}
+use Rattle.std.proofs.Common.{◌≡◌, ◌≤◌, ℕ, zero, suc, [], List, refl, sym, subst, arith}
 use Rattle.byte_code.specs.declared.records.Modules.{Modules}
 use Rattle.js_value.specs.Value.{Value}
 use Rattle.es_ops.specs.State.{World, State}
@@ -97,6 +97,16 @@ module _ (table : Modules) (rows : BuiltIns) where
   acts_follow b calls h (Do d k) below = λ s le. ends_after b below _ _ (happened (event.perform d s.world) s (λ a. run calls (k a))) (one (Performing (Do d k) below s)) (deed_follows b calls below (event.perform d s.world) k s le (λ a. acts_follow b calls h (k a) below))
   acts_follow b calls h (Call f this arguments target k) below = λ s le. ends_after b below _ _ (returned (calls f this arguments target s) (λ v. run calls (k v))) (one (Performing (Call f this arguments target k) below s)) (call_follows b calls below k _ (calls f this arguments target s) (h f this arguments target (passing k) below s le) (λ v. acts_follow b calls h (k v) below))
   acts_follow b calls h (Try f this arguments target k) below = λ s le. ends_after b below _ _ (ended (calls f this arguments target s) (λ completion. run calls (k completion))) (one (Performing (Try f this arguments target k) below s)) (try_follows b calls below k _ (calls f this arguments target s) (h f this arguments target k below s le) (λ completion. acts_follow b calls h (k completion) below))
+
+  to_end : (b : ℕ) (c : Config) (ran : Ran) → EndsWith table rows b [] c ran → Comes table rows c (Finished ran)
+  unfolding step
+  to_end b c (Ends (NormalCompletion v) s) h = and_then c (Returning v [] s) _ h.1 (one (Returning v [] s))
+  to_end b c (Ends (ThrowCompletion v) s) h = and_then c (Throwing v [] s) _ h.1 (one (Throwing v [] s))
+  to_end b c (Halts stop s) h = h
+
+  -- an act with nothing below, a job's for one, ends with its run
+  pub act_ends : (b : ℕ) (calls : Calls) → CallsFollow table rows b calls → (p : Act) (s : State) → s.meter ≤ b → Comes table rows (Performing p [] s) (Finished (run calls p s))
+  act_ends b calls h p s le = to_end b (Performing p [] s) (run calls p s) (acts_follow b calls h p [] s le)
 
   -- a stop is caught by nothing
   pub stop_ends : (stop : Stop) (below : List Below) (s : State) → Comes table rows (Performing (Halt stop) below s) (Finished (Halts stop s))
