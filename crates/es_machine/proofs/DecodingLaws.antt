@@ -1,5 +1,5 @@
 -- What is fetched is what was spelled.
-use Rattle.std.proofs.Common.{◌≡◌, ℕ, List, ◌∷◌, ◌++◌, Some, slice_index, refl, sym, ap, ◌∙◌}
+use Rattle.std.proofs.Common.{◌≡◌, ℕ, List, ◌++◌, Some, slice_index, refl, sym, ap, ◌∙◌}
 use Rattle.std.specs.Int.{w8, w32, w64, cast_signed}
 use Rattle.byteorder.specs.Endian.{big_number}
 use Rattle.byte_code.specs.declared.operand.Following.{Following}
