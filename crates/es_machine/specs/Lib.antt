@@ -1,0 +1,9 @@
+pub mod Tables
+pub mod Decoding
+pub mod Rows
+pub mod Frames
+pub mod Instructions
+pub mod ByteMachine
+pub mod Follows
+pub mod Bodies
+pub mod Boot

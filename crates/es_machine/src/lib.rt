@@ -1,0 +1,2 @@
+//! The byte machine, as definitions and laws.
+#![tactic(auto)]
