@@ -90,7 +90,7 @@ prototype_or_related i k l BothBoolean h = ask_intrinsic h
 prototype_or_related i k l (BothNumber n) h = ask_intrinsic h
 prototype_or_related i k l (BothString n) h = ask_intrinsic h
 
-prototype_from_related : {R : Naming} {a x : Value} (i : Intrinsic) (k l : ℕ → Act) → BothValue R a x → Then R R k l → Related R (prototype_from a i k) (prototype_from x i l)
+pub prototype_from_related : {R : Naming} {a x : Value} (i : Intrinsic) (k l : ℕ → Act) → BothValue R a x → Then R R k l → Related R (prototype_from a i k) (prototype_from x i l)
 prototype_from_related i k l (BothObject r) h = get_related _ _ (key_of_text (codes "prototype")) _ _ r (λ u v e. prototype_or_related i k l e h)
 prototype_from_related i k l BothUndefined h = ask_intrinsic h
 prototype_from_related i k l BothNull h = ask_intrinsic h
