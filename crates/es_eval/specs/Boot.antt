@@ -9,8 +9,7 @@ use Rattle.es_model.specs.declared.names.Identifier.{Identifier}
 use Rattle.es_ops.specs.Intrinsics.{PrintCell, ReadCell}
 use Rattle.es_ops.specs.State.{State, World, Limits, NotEvaluated, cells_of, nothing, room_of}
 use Rattle.es_ops.specs.Events.{TheIntrinsic, reply}
-use Rattle.es_ops.specs.Act.{Calls, NormalCompletion, Ran, Ends}
-use Rattle.es_ops.specs.Calling.{by_rules}
+use Rattle.es_ops.specs.Act.{Give, Call, NormalCompletion, Ran, Ends, run}
 use Rattle.es_ops.specs.ModuleGraph.{ModuleRecord, ModuleImport, GraphFault, Print, Read, Resolution, OfHost, ExportOf, resolve_export}
 use Rattle.es_ops.specs.Boot.{Engine, state_of_module, local_bindings_of, export_cell_in, Preloading, Ready, Refused, Refusal, OfGraph, preloaded, Started, Starts, NoPlan, started, gone, Told, told}
 use Rattle.es_rows.specs.Realm.{realm_store, realm_places}
@@ -18,7 +17,7 @@ use Rattle.es_eval.specs.ModuleTables.{FunctionRow, ModuleTable, sorts}
 use Rattle.es_eval.specs.Completions.{Here, Completed, Doing, follow, ◌>>=◌, ◌>>◌, pure, done, body_value, as_ran}
 use Rattle.es_eval.specs.Environments.{Environment, outer_names, initialise_name, Hoisted, hoisted_by}
 use Rattle.es_eval.specs.Operands.{new_function}
-use Rattle.es_eval.specs.Evaluation.{Smaller, meaning, evaluator, here, environment_of, bind_kept_this}
+use Rattle.es_eval.specs.Evaluation.{Smaller, calls, meaning, evaluator, here, environment_of, bind_kept_this}
 
 -- ---- the cells of a body: those of its top-level bindings, then those of its imports
 
@@ -93,11 +92,8 @@ module _ (tables : List ModuleTable) where
   body_of n m row s =
       as_ran (body_value ((bind_kept_this (evaluator tables s.meter) row.keeps_this (top_environment tables s.world n m row) >>= meaning (evaluator tables s.meter) m.items) (start_of_body row s)))
 
-  abbrev pub calls_by : Smaller → Calls
-  calls_by e f this arguments target s = by_rules e.bodies f this arguments target s
-
-  unfoldable pub outer_calls : Calls
-  outer_calls f this arguments target s = calls_by (evaluator tables s.meter) f this arguments target s
+  unfoldable pub outer_calls : (f this : Value) → (arguments : List Value) → (target : Option Value) → State → Ran
+  outer_calls f this arguments target s = run (calls (evaluator tables s.meter)) (Call f this arguments target Give) s
 
   abbrev pub engine : Engine
   engine = record {

@@ -10,7 +10,8 @@ use Rattle.es_model.specs.Scopes.{Binding, Role, Imported, Inner, Own as OwnName
 use Rattle.es_model.specs.FreeNames.{role_number, place_of_binding}
 use Rattle.es_ops.specs.Messages.{Message, NotDefined, NotInitialised, AssignmentToConstant}
 use Rattle.es_ops.specs.Events.{Make}
-use Rattle.es_ops.specs.Act.{Act, Give, Calls, NormalCompletion, Ends}
+use Rattle.es_ops.specs.State.{State}
+use Rattle.es_ops.specs.Act.{Act, Give, NormalCompletion, Ran, Ends}
 use Rattle.es_ops.specs.Errors.{raise}
 use Rattle.es_ops.specs.Bindings.{initialize_cell, read_cell, write_cell}
 use Rattle.es_rows.specs.Realm.{global_names}
@@ -56,7 +57,7 @@ this_name = []
 
 -- ---- what needs no call
 
-abbrev pub no_calls : Calls
+abbrev pub no_calls : (function this : Value) → (arguments : List Value) → (target : Option Value) → State → Ran
 no_calls f this arguments target s = Ends (NormalCompletion Undefined) s
 
 abbrev pub raises : Message → Doing Value

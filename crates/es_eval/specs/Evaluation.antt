@@ -197,7 +197,7 @@ initialise_all (name ∷ names) env v = initialise_name env name.name v >> initi
 module _ (smaller : Smaller) where
   -- a way of calling: each body runs with one unit less
   abbrev pub calls : Calls
-  calls f this arguments target s = by_rules smaller.bodies f this arguments target s
+  calls = by_rules smaller.bodies
 
   abbrev pub does_act : Act → Doing Value
   does_act act = acts calls act
@@ -508,7 +508,7 @@ module _ (tables : List ModuleTable) where
   run_class smaller c function this arguments target s = run no_calls (raise NotAFunction) s
 
   -- the body of a call, once the rules of calling let it in
-  unfoldable pub bodies : Smaller → Calls
+  unfoldable pub bodies : Smaller → (function this : Value) → (arguments : List Value) → (target : Option Value) → State → Ran
   bodies smaller (Object n) this arguments target s = run_class smaller (object_in s.world.heap.store n).class n this arguments target s
   bodies smaller v this arguments target s = run no_calls (raise NotAFunction) s
 
