@@ -82,7 +82,7 @@ take_unit = λ h. taken h.state.meter h
 -- ---- what a body's completion is to its caller: what isn't returned is undefined (10.2.1.3)
 
 abbrev pub body_value : Completed (Unit {0}) → Completed Value
-body_value (Normal done h) = Normal Undefined h
+body_value (Normal _ h) = Normal Undefined h
 body_value (Ended (Return v) h) = Normal v h
 body_value (Ended e h) = Ended e h
 
@@ -99,7 +99,7 @@ as_ran (Ended _ h) = Ends (NormalCompletion Undefined) h.state
 
 -- what a turn's body completed with, before the next turn
 abbrev pub after_turn : Completed (Unit {0}) → Doing (Unit {0}) → Completed (Unit {0})
-after_turn (Normal done h) next = next h
+after_turn (Normal _ h) next = next h
 after_turn (Ended Continue h) next = next h
 after_turn (Ended Break h) next = Normal tt h
 after_turn (Ended e h) next = Ended e h
@@ -115,10 +115,10 @@ caught c catch = c
 
 -- an abrupt completion of `finally` replaces that of what stands before it; behind a stop nothing runs
 abbrev pub after_finally : Completed (Unit {0}) → (Here → Completed (Unit {0})) → Completed (Unit {0})
-after_finally (Normal done h) before = before h
+after_finally (Normal _ h) before = before h
 after_finally c before = c
 
 abbrev pub finally_done : Completed (Unit {0}) → Doing (Unit {0}) → Completed (Unit {0})
-finally_done (Normal done h) finally = finally h
+finally_done (Normal _ h) finally = finally h
 finally_done (Ended (Stopped stop) h) finally = Ended (Stopped stop) h
 finally_done (Ended e h) finally = after_finally (finally h) (λ h. Ended e h)

@@ -82,8 +82,8 @@ entered lets functions env =
     bind_all lets env >>= (λ with_lets. bind_functions functions with_lets >>= (λ inner. put_functions functions inner >> pure inner))
 
 -- what an operand's truth chooses
-abbrev pub chosen : {A : Type 0} → Value → (yes no : Doing A) → Doing A
-chosen v yes no = cond (to_boolean v) yes no
+abbrev pub by_truth : {A : Type 0} → Value → (consequent alternative : Doing A) → Doing A
+by_truth v consequent alternative = cond (to_boolean v) consequent alternative
 
 -- a let without an initialiser is undefined, and so is a return without a value
 abbrev pub undefined_or : Option Value → Value
@@ -303,10 +303,10 @@ module _ (smaller : Smaller) where
         meaning a [] env >>= (λ v. meaning b [] env >>= (λ w. does_act (o.binary (binary_operator operator) v w Give)))
     meaning (t.In a b) = λ name env. meaning a [] env >>= (λ v. meaning b [] env >>= (λ w. does_act (o.has_property_in v w Give)))
     meaning (t.InstanceOf a b) = λ name env. meaning a [] env >>= (λ v. meaning b [] env >>= (λ w. does_act (o.instance_of v w Give)))
-    meaning (t.And a b) = λ name env. meaning a [] env >>= (λ v. chosen v (meaning b [] env) (pure v))
-    meaning (t.Or a b) = λ name env. meaning a [] env >>= (λ v. chosen v (pure v) (meaning b [] env))
+    meaning (t.And a b) = λ name env. meaning a [] env >>= (λ v. by_truth v (meaning b [] env) (pure v))
+    meaning (t.Or a b) = λ name env. meaning a [] env >>= (λ v. by_truth v (pure v) (meaning b [] env))
     meaning (t.Nullish a b) = λ name env. meaning a [] env >>= (λ v. cond (is_nullish v) (meaning b [] env) (pure v))
-    meaning (t.Conditional test a b) = λ name env. meaning test [] env >>= (λ v. chosen v (meaning a [] env) (meaning b [] env))
+    meaning (t.Conditional test a b) = λ name env. meaning test [] env >>= (λ v. by_truth v (meaning a [] env) (meaning b [] env))
     meaning (t.Assign at target None value) = λ name env.
         reference target env >>= (λ r. meaning value (name_of_target target) env >>= put_value env r)
     meaning (t.Assign at target (Some operator) value) = λ name env.
@@ -351,7 +351,7 @@ module _ (smaller : Smaller) where
     meaning (t.FunctionStatement function) = λ env. done
     meaning (t.ClassStatement (t.ClassOf at own parent members)) = λ env. meaning (t.ClassOf at own parent members) [] env >>= initialise_class own env
     meaning (t.Block list) = λ env. in_block list (meaning list) env
-    meaning (t.If test yes no) = λ env. meaning test [] env >>= (λ v. chosen v (meaning yes env) (meaning no env))
+    meaning (t.If test consequent alternative) = λ env. meaning test [] env >>= (λ v. by_truth v (meaning consequent env) (meaning alternative env))
     meaning (t.For head test step body) = λ env.
         meaning head env >>= (λ headed. copy_all headed.copied headed.env >>=
         for_turn headed.copied (meaning test) (meaning step) (meaning body) (smaller.turns (t.For head test step body) headed.copied))
@@ -360,9 +360,9 @@ module _ (smaller : Smaller) where
     meaning (t.HeadDeclare const declarators) = λ env.
         bind_all (lexical const declarators) env >>= (λ inner. meaning declarators inner >> pure (record { env = inner; copied = copied_names const declarators }))
     meaning (t.While test body) = λ env.
-        take_unit >> (meaning test [] env >>= (λ v. chosen v (λ h. after_turn (meaning body env h) (smaller.turns (t.While test body) [] env)) done))
+        take_unit >> (meaning test [] env >>= (λ v. by_truth v (λ h. after_turn (meaning body env h) (smaller.turns (t.While test body) [] env)) done))
     meaning (t.DoWhile body test semi) = λ env.
-        take_unit >> (λ h. after_turn (meaning body env h) (meaning test [] env >>= (λ v. chosen v (smaller.turns (t.DoWhile body test semi) [] env) done)))
+        take_unit >> (λ h. after_turn (meaning body env h) (meaning test [] env >>= (λ v. by_truth v (smaller.turns (t.DoWhile body test semi) [] env) done)))
     meaning (t.Break at semi) = λ env. ends Break
     meaning (t.Continue at semi) = λ env. ends Continue
     meaning (t.Return at value semi) = λ env. meaning value [] env >>= (λ v. ends (Return (undefined_or v)))

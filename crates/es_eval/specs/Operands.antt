@@ -201,7 +201,7 @@ own_this = λ h. initialised h.this h
 
 abbrev pub bind_this : Option Value → Environment → Value → Doing Value
 bind_this (Some this) env v = raises SuperCalledTwice
-bind_this None env v = λ h. follow (initialise_place (place_of_name env this_name) v (record h { this = Some v })) (λ done. pure v)
+bind_this None env v = λ h. follow (initialise_place (place_of_name env this_name) v (record h { this = Some v })) (λ _. pure v)
 
 abbrev pub bind_own_this : Environment → Value → Doing Value
 bind_own_this env v = λ h. bind_this h.this env v h
