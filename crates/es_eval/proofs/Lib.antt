@@ -1,1 +1,1 @@
-mod EvaluationRows
+mod ThinRows

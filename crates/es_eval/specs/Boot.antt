@@ -1,79 +1,155 @@
--- Booting one module, and what a run tells of itself. Own rules, over the evaluation of modules (16.2.1).
-use Rattle.std.specs.Prelude.{ℕ, Bool, true, false, List, [], ◌∷◌, ◌++◌, Option, Some, None, codes, if◌then◌else◌}
-use Rattle.std.specs.Str.{bytes_eq}
-use Rattle.es_model.specs.Tree.{Text}
-use Rattle.es_model.specs.declared.names.Pair.{Pair}
-use Rattle.es_ops.specs.Host.{written, line_events}
+-- Modules by evaluation: their bodies, the set-up of their functions, and calls from outside; the engine of a boot, and a boot
+-- from the realm on (ECMA-262 16.2.1.6.4, 16.2.1.6.5, 9.3).
+use Rattle.std.specs.Prelude.{ℕ, Bool, List, [], ◌∷◌, codes, ◌++◌, map, slice_get, Option, Some, None}
+use Rattle.js_value.specs.Value.{Value, Undefined, Object, Text}
 use Rattle.es_model.specs.Tree as t
 use Rattle.es_model.specs.Tree.{Tree}
-use Rattle.es_eval.specs.Evaluation.{Value, Undefined, String, Function, HostFunction, Print, Read, Limit, Budget, Depth, State, Throw, Stop, Unbuilt, Completed, Normal, Ended, Environment, HostCell, meaning, evaluator}
+use Rattle.es_model.specs.Scopes.{default_names}
+use Rattle.es_model.specs.declared.names.Identifier.{Identifier}
+use Rattle.es_ops.specs.Intrinsics.{PrintCell, ReadCell}
+use Rattle.es_ops.specs.State.{State, World, Limits, NotEvaluated, cells_of, nothing, room_of}
+use Rattle.es_ops.specs.Events.{TheIntrinsic, reply}
+use Rattle.es_ops.specs.Act.{Give, Call, NormalCompletion, Ran, Ends, run}
+use Rattle.es_ops.specs.ModuleGraph.{ModuleRecord, ModuleImport, GraphFault, Print, Read, Resolution, OfHost, ExportOf, resolve_export}
+use Rattle.es_ops.specs.Boot.{Engine, state_of_module, local_bindings_of, export_cell_in, Preloading, Ready, Refused, Refusal, OfGraph, preloaded, Started, Starts, NoPlan, started, gone, Told, told}
+use Rattle.es_rows.specs.Realm.{realm_store, realm_places}
+use Rattle.es_eval.specs.ModuleTables.{FunctionRow, ModuleTable, sorts}
+use Rattle.es_eval.specs.Completions.{Here, Completed, Doing, follow, ◌>>=◌, ◌>>◌, pure, done, body_value, as_ran}
+use Rattle.es_eval.specs.Environments.{Environment, outer_names, initialise_name, Hoisted, hoisted_by}
+use Rattle.es_eval.specs.Operands.{new_function}
+use Rattle.es_eval.specs.Evaluation.{Smaller, calls, meaning, evaluator, here, environment_of, bind_kept_this}
 
--- ---- imports of the module `host`
+-- ---- the cells of a body: those of its top-level bindings, then those of its imports
 
-abbrev pub host_export : Text → Option HostFunction
-host_export name =
-    if bytes_eq name (codes "print") then Some Print
-    else if bytes_eq name (codes "read") then Some Read
-    else None
+abbrev pub graphs : List ModuleTable → List ModuleRecord
+graphs tables = map (λ m. m.graph) tables
 
-abbrev pub bound_by : Option HostFunction → Text → Option Environment → Option Environment
-bound_by (Some function) name (Some env) = Some ((name, HostCell function) ∷ env)
-bound_by _ name _ = None
+abbrev pub cell_of_resolution : List ModuleRecord → World → Resolution → ℕ
+cell_of_resolution ms w (OfHost Print) = reply (TheIntrinsic PrintCell) w
+cell_of_resolution ms w (OfHost Read) = reply (TheIntrinsic ReadCell) w
+cell_of_resolution ms w (ExportOf n place) = export_cell_in (local_bindings_of ms n) (state_of_module w n) place
+cell_of_resolution ms w other = 0
 
--- the bindings of an import list, or None where the host has no such export
-abbrev pub bindings : List Pair → Option Environment → Option Environment
-bindings [] env = env
-bindings (pair ∷ pairs) env = bound_by (host_export pair.taken.name) pair.given.name (bindings pairs env)
+abbrev pub imported_cells : List ModuleRecord → World → List ModuleImport → List ℕ
+imported_cells ms w imports = map (λ i. cell_of_resolution ms w (resolve_export ms i.request i.name)) imports
 
-abbrev pub imports : Bool → List Pair → Option Environment → Option Environment
-imports true names env = bindings names env
-imports false names env = None
+abbrev pub top_cells : List ModuleTable → World → (number : ℕ) → ModuleTable → List ℕ
+top_cells tables w n m = cells_of (state_of_module w n) ++ imported_cells (graphs tables) w m.graph.imports
 
--- the environment of a module's top level, or None where an import has no export
-unfoldable pub top_level : Tree (t.list t.item) → Option Environment
-top_level (t.more (t.Import from names semi) items) = imports (bytes_eq from (codes "host")) names (top_level items)
-top_level (t.more item items) = top_level items
-top_level t.none = Some []
+abbrev pub top_environment : List ModuleTable → World → (number : ℕ) → ModuleTable → FunctionRow → Environment
+top_environment tables w n m row = environment_of m n row 0 None (outer_names m.tops (top_cells tables w n m)) None
 
--- ---- the run
+-- ---- top-level functions: each is made and put into its binding's cell
 
--- With a budget: no call is open and nothing is written.
-abbrev pub start : ℕ → State
-start budget = record { meter = budget; depth = 0; trace = [] }
+pub record TopFunction : Type 0 where
+  pub name : Identifier
+  pub function : Tree t.function
+  pub given : Text  -- its name where it has none of its own
 
-abbrev pub run_in : ℕ → Tree (t.list t.item) → Option Environment → Completed (Unit {0})
-run_in budget items (Some env) = meaning (evaluator budget) items env (start budget)
-run_in budget items None = Ended Unbuilt (start budget)
+abbrev pub top_function : Text → Tree t.function → Identifier → TopFunction
+top_function given function name = record { name = name; function = function; given = given }
 
--- the evaluation of a module's items as the one module of a boot
-unfoldable pub run : ℕ → Tree (t.list t.item) → Completed (Unit {0})
-run budget items = run_in budget items (top_level items)
+abbrev pub top_functions_by : Tree t.item → List TopFunction
+top_functions_by (t.ExportDeclaration statement) = map (λ h. top_function [] h.function h.name) (hoisted_by statement)
+top_functions_by (t.ExportDefault at (t.DefaultFunction function) semi) = map (top_function (codes "default") function) (default_names at (t.DefaultFunction function))
+top_functions_by (t.Plain statement) = map (λ h. top_function [] h.function h.name) (hoisted_by statement)
+top_functions_by _ = []
 
--- ---- what is told of it
+abbrev pub top_functions : Tree (t.list t.item) → List TopFunction
+top_functions t.none = []
+top_functions (t.more item items) = top_functions_by item ++ top_functions items
 
-pub record Told : Type 0 where
-  pub status : ℕ
-  pub bytes : List ℕ
+abbrev pub put_top_functions : List TopFunction → Environment → Doing (Unit {0})
+put_top_functions [] env = done
+put_top_functions (one ∷ rest) env = new_function one.function one.given None env >>= (λ f. initialise_name env one.name.name f) >> put_top_functions rest env
 
--- the text of a value that nothing caught; of a function it is its name
-abbrev pub text_of : Value → Text
-text_of Undefined = codes "undefined"
-text_of (String text) = text
-text_of (Function Print) = codes "print"
-text_of (Function Read) = codes "read"
+-- ---- an engine
 
-abbrev pub name_of : Limit → Text
-name_of Budget = codes "budget"
-name_of Depth = codes "depth"
+abbrev pub nothing_done : State → Ran
+nothing_done s = Ends (NormalCompletion Undefined) s
 
--- the bytes of the trace and of one line more
-abbrev pub with_line : ℕ → State → Text → Told
-with_line status s text = record { status = status; bytes = written (s.trace ++ line_events text) }
+abbrev pub with_row : Option FunctionRow → (FunctionRow → State → Ran) → State → Ran
+with_row None f s = nothing_done s
+with_row (Some row) f s = f row s
 
--- The end of a run: its bytes and its status. An abrupt completion other than a throw or a stop reaches
--- no module body, so that the last case never comes.
-abbrev pub told : Completed (Unit {0}) → Told
-told (Normal done s) = record { status = 0; bytes = written s.trace }
-told (Ended (Throw value) s) = with_line 1 s (codes "uncaught: " ++ text_of value)
-told (Ended (Stop limit) s) = with_line 5 s (codes "stopped: " ++ name_of limit)
-told (Ended _ s) = record { status = 3; bytes = written s.trace }
+abbrev pub with_table : Option ModuleTable → (ModuleTable → FunctionRow → State → Ran) → State → Ran
+with_table None f s = nothing_done s
+with_table (Some m) f s = with_row (slice_get m.rows 0) (f m) s
+
+abbrev pub constants_of : Option ModuleTable → List Bool
+constants_of None = []
+constants_of (Some m) = m.constants
+
+module _ (tables : List ModuleTable) where
+  abbrev pub make_functions_of : (number : ℕ) → ModuleTable → FunctionRow → State → Ran
+  make_functions_of n m row s = as_ran (body_value (put_top_functions (top_functions m.items) (top_environment tables s.world n m row) (here row s)))
+
+  -- A body's `this` is undefined (9.1.1.5.4).
+  abbrev pub start_of_body : FunctionRow → State → Here
+  start_of_body row s = record (here row s) { this = Some Undefined }
+
+  abbrev pub body_of : (number : ℕ) → ModuleTable → FunctionRow → State → Ran
+  body_of n m row s =
+      as_ran (body_value ((bind_kept_this (evaluator tables s.meter) row.keeps_this (top_environment tables s.world n m row) >>= meaning (evaluator tables s.meter) m.items) (start_of_body row s)))
+
+  unfoldable pub outer_calls : (f this : Value) → (arguments : List Value) → (target : Option Value) → State → Ran
+  outer_calls f this arguments target s = run (calls (evaluator tables s.meter)) (Call f this arguments target Give) s
+
+  abbrev pub engine : Engine
+  engine = record {
+    modules = graphs tables;
+    declared = λ n. constants_of (slice_get tables n);
+    make_functions = λ n s. with_table (slice_get tables n) (make_functions_of n) s;
+    body = λ n s. with_table (slice_get tables n) (body_of n) s;
+    calls = outer_calls;
+  }
+
+-- ---- the start: the realm, and all modules new; `names` are the texts that are names from the start
+
+abbrev pub start : List ModuleTable → (names : List Text) → Limits → State
+start tables names limits = record {
+  meter = limits.budget;
+  depth = 0;
+  world = record {
+    heap = record {
+      store = realm_store;
+      realm = realm_places;
+      names = names;
+      ledger = record { used = nothing; room = room_of limits names; first_costs = [] };
+      jobs = [];
+    };
+    rejections = [];
+    modules = map (λ m. NotEvaluated) tables;
+    functions = sorts tables;
+    trace = [];
+    input = None;
+  };
+}
+
+-- Main starts with no counts. The limit of names is less those that are known, the preloads' new ones among them.
+abbrev pub for_main : Limits → (input : List ℕ) → State → State
+for_main limits input s = record s {
+  meter = limits.budget;
+  world = record s.world {
+    input = Some input;
+    heap = record s.world.heap { ledger = record { used = nothing; room = room_of limits s.world.heap.names; first_costs = [] } };
+  };
+}
+
+-- ---- preloads, main and its jobs
+
+pub data Ending : Type 0 where
+  Tells : Told → Ending
+  Refuses : Refusal → Ending
+
+abbrev pub ending : Engine → (main : Text) → Started → Ending
+ending e main (Starts outcome) = Tells (told e main (gone e None outcome))
+ending e main (NoPlan fault) = Refuses (OfGraph fault)
+
+abbrev pub main_after : Engine → (main : Text) → (State → State) → Preloading → Ending
+main_after e main prepared (Ready s) = ending e main (started e main (prepared s))
+main_after e main prepared (Refused refusal) = Refuses refusal
+
+unfoldable pub boot : List ModuleTable → (names : List Text) → (preloads : List Text) → (of_preloads : Limits) → (main : Text) → (input : List ℕ) → Limits → Ending
+boot tables names preloads of_preloads main input limits =
+    main_after (engine tables) main (for_main limits input) (preloaded (engine tables) preloads (start tables names of_preloads))

@@ -14,8 +14,8 @@ use Rattle.es_model.specs.Tree as t
 use Rattle.es_model.specs.Tree.{Tree, Text}
 use Rattle.es_ops.specs.State.{TraceEvent}
 use Rattle.es_ops.specs.Host.{written, line_events}
-use Rattle.es_eval.specs.Evaluation.{Environment, HostCell, Print, State, Normal, Run, meaning, find as bound, evaluator}
-use Rattle.es_eval.specs.Boot.{top_level, run, told}
+use Rattle.es_eval.specs.ThinEvaluation.{Environment, HostCell, Print, State, Normal, Run, meaning, find as bound, evaluator}
+use Rattle.es_eval.specs.ThinBoot.{top_level, run, told}
 use Rattle.xs_cli.specs.Code.{has_name, with_name, with_names, names_of, number, print_text, body, AreInstructions}
 use Rattle.xs_cli.specs.Machine.{runs, name_at}
 use Rattle.xs_cli.specs.Prints.{events_of}

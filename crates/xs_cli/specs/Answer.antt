@@ -2,7 +2,7 @@
 use Rattle.std.specs.Prelude.{◌&&◌, ◌==◌, ℕ, Bool, false, not, List, [], ◌∷◌, Option, Some, None, codes, if◌then◌else◌}
 use Rattle.std.specs.Str.{bytes_eq}
 use Rattle.xs_base.specs.Held.{Contents, held}
-use Rattle.es_eval.specs.Boot.{Told, told, run}
+use Rattle.es_eval.specs.ThinBoot.{Told, told, run}
 use Rattle.xs_cli.specs.Thin.{Thin, thin, tree_of}
 
 -- ---- words

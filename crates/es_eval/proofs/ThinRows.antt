@@ -6,8 +6,8 @@ use Rattle.es_model.specs.Tree as t
 use Rattle.es_model.specs.Tree.{Tree}
 use Rattle.es_model.specs.declared.names.Identifier.{Identifier}
 use Rattle.es_model.specs.declared.kinds.Semi.TheVariants.{Written}
-use Rattle.es_eval.specs.Evaluation.{meaning, find, evaluator}
-use Rattle.es_eval.specs.Boot.{top_level, run, told}
+use Rattle.es_eval.specs.ThinEvaluation.{meaning, find, evaluator}
+use Rattle.es_eval.specs.ThinBoot.{top_level, run, told}
 
 -- import { print } from "host"; print("hi");
 identifier : ℕ → List ℕ → Identifier
