@@ -252,7 +252,7 @@ module _ (smaller : Smaller) where
   abbrev pub defined : MembersOf → (static : Bool) → MemberKind → MemberKey → (names : Bool) → Value → Doing (Unit {0})
   defined of static kind k names v =
       nothing_given (does_act (named_act (names && k.computed) kind k.key v
-        (define_member (member_sort kind) (is_enumerable of) (Object (object_of_member of static)) k.key v (Give Undefined))))
+      (define_member (member_sort kind) (is_enumerable of) (Object (object_of_member of static)) k.key v (Give Undefined))))
 
   -- `super(..)` (13.3.7.1)
   abbrev pub called_super : Environment → List Value → Doing Value

@@ -32,9 +32,9 @@ pub record FunctionRow : Type 0 where
 abbrev pub captured_by : List Mention → List Binding
 captured_by [] = []
 captured_by (one ∷ rest) = elim (meant one.what) [
-    | Some binding ↦ cond (length one.round == length binding.lies) (captured_by rest) (binding ∷ captured_by rest)
-    | None ↦ captured_by rest
-  ]
+  | Some binding ↦ cond (length one.round == length binding.lies) (captured_by rest) (binding ∷ captured_by rest)
+  | None ↦ captured_by rest
+]
 
 abbrev pub is_among : Binding → List Binding → Bool
 is_among binding bindings = list_any (same_binding binding) bindings

@@ -61,8 +61,8 @@ sorts_in table = map (λ m. map (λ f. sort_of_kind (kind_of f)) m.functions) ta
 abbrev pub handler_at : (handlers : List ℕ) → ℕ → Option ℕ
 handler_at (a ∷ b ∷ c ∷ d ∷ e ∷ f ∷ handlers) at =
     cond (nat_le (big_number 2 (a ∷ b ∷ [])) at && nat_lt at (big_number 2 (c ∷ d ∷ [])))
-        (Some (big_number 2 (e ∷ f ∷ [])))
-        (handler_at handlers at)
+    (Some (big_number 2 (e ∷ f ∷ [])))
+    (handler_at handlers at)
 handler_at handlers at = None
 
 -- ---- exports
