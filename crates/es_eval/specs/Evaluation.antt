@@ -186,6 +186,9 @@ from_list zero first rest skipped = first >> rest
 from_list (suc n) first rest skipped = skipped n
 
 -- the name of a class statement is bound where the class is made
+abbrev pub own_name_of : Tree t.class → Option Identifier
+own_name_of (t.ClassOf at own parent members) = own
+
 abbrev pub initialise_class : Option Identifier → Environment → Value → Doing (Unit {0})
 initialise_class None env v = done
 initialise_class (Some name) env v = initialise_name env name.name v
@@ -215,6 +218,13 @@ module _ (smaller : Smaller) where
   put_value env (PropertyReference base key) v = does_act (put_by_value base key v (Give v))
   put_value env (SuperReference this key computed) v = does_act (super_set env.home this key v (Give v))
   put_value env (NoReference old) v = pure v
+
+  -- what a member refers to (13.3.2)
+  abbrev pub dot_of : (object : Doing Value) → (key : Text) → Doing Reference
+  dot_of object key = object >>= (λ base. pure (PropertyReference base (String key)))
+
+  abbrev pub index_of : (object key : Doing Value) → Doing Reference
+  index_of object key = object >>= (λ base. key >>= (λ k. pure (PropertyReference base k)))
 
   -- a reference that is read and then written: its base is tested and its key converted once
   abbrev pub prepared : Reference → Doing Reference
@@ -261,6 +271,13 @@ module _ (smaller : Smaller) where
   abbrev pub this_of : Environment → Doing Value
   this_of env = cond (in_arrow env.row.round) (read_name env this_name) own_this
 
+  -- what a `super` member refers to (13.3.7)
+  abbrev pub super_dot_of : Environment → (key : Text) → Doing Reference
+  super_dot_of env key = this_of env >>= (λ this. pure (SuperReference this (String key) false))
+
+  abbrev pub super_index_of : Environment → (key : Doing Value) → Doing Reference
+  super_index_of env key = this_of env >>= (λ this. key >>= (λ k. pure (SuperReference this k true)))
+
   abbrev pub new_class : Constructor → (name : Text) → (parent : Option Value) → Environment → Doing Value
   new_class c name parent env = made_class calls c.row name c.parameters parent env
 
@@ -283,22 +300,22 @@ module _ (smaller : Smaller) where
     meaning (t.Class class) = λ name env. meaning class name env
     meaning (t.Paren form) = λ name env. meaning form name env
     -- ---- members, calls and `new` (13.3)
-    meaning (t.Dot object key) = λ name env. reference (t.Dot object key) env >>= value_of env
-    meaning (t.Index object key) = λ name env. reference (t.Index object key) env >>= value_of env
-    meaning (t.SuperDot at key) = λ name env. reference (t.SuperDot at key) env >>= value_of env
-    meaning (t.SuperIndex at key) = λ name env. reference (t.SuperIndex at key) env >>= value_of env
+    meaning (t.Dot object key) = λ name env. dot_of (meaning object [] env) key >>= value_of env
+    meaning (t.Index object key) = λ name env. index_of (meaning object [] env) (meaning key [] env) >>= value_of env
+    meaning (t.SuperDot at key) = λ name env. super_dot_of env key >>= value_of env
+    meaning (t.SuperIndex at key) = λ name env. super_index_of env (meaning key [] env) >>= value_of env
     meaning (t.Call callee arguments) = λ name env.
-        reference callee env >>= (λ r. value_of env r >>= (λ f. meaning arguments env >>= call_with env r f))
+        reference callee (meaning callee []) env >>= (λ r. value_of env r >>= (λ f. meaning arguments env >>= call_with env r f))
     meaning (t.New callee t.absent) = λ name env. meaning callee [] env >>= (λ f. does_act (construct f [] f Give))
     meaning (t.New callee (t.present arguments)) = λ name env.
         meaning callee [] env >>= (λ f. meaning arguments env >>= (λ vs. does_act (construct f vs f Give)))
     meaning (t.SuperCall at arguments) = λ name env. meaning arguments env >>= called_super env
     -- ---- operators (13.4 to 13.16)
-    meaning (t.Update at up prefix target) = λ name env. reference target env >>= (λ r. prepared r >>= updated env up prefix)
+    meaning (t.Update at up prefix target) = λ name env. reference target (meaning target []) env >>= (λ r. prepared r >>= updated env up prefix)
     meaning (t.Unary operator form) = λ name env. meaning form [] env >>= (λ v. does_act (o.unary (unary_operator operator) v Give))
-    meaning (t.Typeof form) = λ name env. reference form env >>= type_of_reference env
+    meaning (t.Typeof form) = λ name env. reference form (meaning form []) env >>= type_of_reference env
     meaning (t.Void form) = λ name env. meaning form [] env >> pure Undefined
-    meaning (t.Delete at form) = λ name env. reference form env >>= deleted
+    meaning (t.Delete at form) = λ name env. reference form (meaning form []) env >>= deleted
     meaning (t.Binary operator a b) = λ name env.
         meaning a [] env >>= (λ v. meaning b [] env >>= (λ w. does_act (o.binary (binary_operator operator) v w Give)))
     meaning (t.In a b) = λ name env. meaning a [] env >>= (λ v. meaning b [] env >>= (λ w. does_act (o.has_property_in v w Give)))
@@ -308,9 +325,9 @@ module _ (smaller : Smaller) where
     meaning (t.Nullish a b) = λ name env. meaning a [] env >>= (λ v. cond (is_nullish v) (meaning b [] env) (pure v))
     meaning (t.Conditional test a b) = λ name env. meaning test [] env >>= (λ v. by_truth v (meaning a [] env) (meaning b [] env))
     meaning (t.Assign at target None value) = λ name env.
-        reference target env >>= (λ r. meaning value (name_of_target target) env >>= put_value env r)
+        reference target (meaning target []) env >>= (λ r. meaning value (name_of_target target) env >>= put_value env r)
     meaning (t.Assign at target (Some operator) value) = λ name env.
-        reference target env >>= (λ r. prepared r >>= (λ p. value_of env p >>= (λ old. meaning value [] env >>= (λ v.
+        reference target (meaning target []) env >>= (λ r. prepared r >>= (λ p. value_of env p >>= (λ old. meaning value [] env >>= (λ v.
         does_act (o.binary (binary_operator operator) old v Give) >>= put_value env p))))
     meaning (t.Comma a b) = λ name env. meaning a [] env >> meaning b [] env
     meaning (t.none {s = t.expression}) = λ env. pure []
@@ -349,7 +366,7 @@ module _ (smaller : Smaller) where
     meaning (t.none {s = t.declarator}) = λ env. done
     meaning (t.more {s = t.declarator} one rest) = λ env. meaning one env >> meaning rest env
     meaning (t.FunctionStatement function) = λ env. done
-    meaning (t.ClassStatement (t.ClassOf at own parent members)) = λ env. meaning (t.ClassOf at own parent members) [] env >>= initialise_class own env
+    meaning (t.ClassStatement class) = λ env. meaning class [] env >>= initialise_class (own_name_of class) env
     meaning (t.Block list) = λ env. in_block list (meaning list) env
     meaning (t.If test consequent alternative) = λ env. meaning test [] env >>= (λ v. by_truth v (meaning consequent env) (meaning alternative env))
     meaning (t.For head test step body) = λ env.
@@ -397,8 +414,7 @@ module _ (smaller : Smaller) where
     meaning (t.ExportDeclaration statement) = λ env. meaning statement env
     meaning (t.ExportDefault at value semi) = λ env. meaning value at env
     meaning (t.DefaultFunction function) = λ at env. done
-    meaning (t.DefaultClass (t.ClassOf begins own parent members)) = λ at env.
-        meaning (t.ClassOf begins own parent members) (codes "default") env >>= initialise_all (default_names at (t.DefaultClass (t.ClassOf begins own parent members))) env
+    meaning (t.DefaultClass class) = λ at env. meaning class (codes "default") env >>= initialise_all (default_names at (t.DefaultClass class)) env
     meaning (t.DefaultValue form) = λ at env. meaning form (codes "default") env >>= initialise_name env (codes "default")
     meaning (t.Plain statement) = λ env. meaning statement env
     meaning (t.none {s = t.item}) = λ env. done
@@ -406,14 +422,15 @@ module _ (smaller : Smaller) where
     meaning {s} _ = no_meaning s
 
     -- what a target, a callee or an operand of `delete` and `typeof` refers to, through parentheses (13.3, 13.15)
-    pub reference : Tree t.expression → Environment → Doing Reference
-    reference (t.Paren form) env = reference form env
-    reference (t.Name identifier) env = pure (NameReference identifier.name)
-    reference (t.Dot object key) env = meaning object [] env >>= (λ base. pure (PropertyReference base (String key)))
-    reference (t.Index object key) env = meaning object [] env >>= (λ base. meaning key [] env >>= (λ k. pure (PropertyReference base k)))
-    reference (t.SuperDot at key) env = this_of env >>= (λ this. pure (SuperReference this (String key) false))
-    reference (t.SuperIndex at key) env = this_of env >>= (λ this. meaning key [] env >>= (λ k. pure (SuperReference this k true)))
-    reference form env = meaning form [] env >>= (λ v. pure (NoReference v))
+    -- (`value` is the meaning of the same form, where it is none of these)
+    pub reference : Tree t.expression → (value : Environment → Doing Value) → Environment → Doing Reference
+    reference (t.Paren form) value env = reference form (meaning form []) env
+    reference (t.Name identifier) value env = pure (NameReference identifier.name)
+    reference (t.Dot object key) value env = dot_of (meaning object [] env) key
+    reference (t.Index object key) value env = index_of (meaning object [] env) (meaning key [] env)
+    reference (t.SuperDot at key) value env = super_dot_of env key
+    reference (t.SuperIndex at key) value env = super_index_of env (meaning key [] env)
+    reference form value env = value env >>= (λ v. pure (NoReference v))
 
     -- a template's values, each made a primitive at once (13.2.8.5)
     pub substitutions : Tree (t.list t.expression) → Environment → Doing (List Value)
