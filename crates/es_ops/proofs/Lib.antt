@@ -19,6 +19,7 @@ pub mod PropertiesKeep
 pub mod Prototypes
 pub mod RunsKeep
 pub mod KindsLast
+pub mod KindedObjects
 mod Samples
 mod BootRows
 mod ModuleGraphRows
