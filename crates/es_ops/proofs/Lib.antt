@@ -20,6 +20,7 @@ pub mod Prototypes
 pub mod RunsKeep
 pub mod KindsLast
 pub mod KindedObjects
+pub mod KindedDeeds
 mod Samples
 mod BootRows
 mod ModuleGraphRows
