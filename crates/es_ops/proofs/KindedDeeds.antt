@@ -186,7 +186,7 @@ module _ (kinds : Kinds) where
   lifted_kinded B w (Stops full) k p = tt
 
   -- what a deed answers that stood before it
-  abbrev IsOldAnswer : (d : Deed) → Answer d → Type 0
+  abbrev pub IsOldAnswer : (d : Deed) → Answer d → Type 0
   IsOldAnswer (TakeReaction n) r = IsReactionAnswerKinded kinds r
   IsOldAnswer Dequeue job = IsJobAnswerKinded kinds job
   IsOldAnswer _ a = Unit {0}

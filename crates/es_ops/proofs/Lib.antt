@@ -21,6 +21,7 @@ pub mod RunsKeep
 pub mod KindsLast
 pub mod KindedObjects
 pub mod KindedDeeds
+pub mod KindedWorlds
 mod Samples
 mod BootRows
 mod ModuleGraphRows

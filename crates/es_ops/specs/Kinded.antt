@@ -14,6 +14,10 @@ use Rattle.es_ops.specs.Kinds.{Kind, ObjectKind, CellKind, MarkKind, kind_of, ki
 abbrev pub Kinds : Type 0
 Kinds = ℕ → Option Kind
 
+-- later, each thing that stood is of the kind that it was
+abbrev pub Lasts : (kinds later : Kinds) → Type 0
+Lasts kinds later = (n : ℕ) (k : Kind) → kinds n ≡ Some k → later n ≡ Some k
+
 -- ---- kinds
 
 abbrev pub IsObject : Option Kind → Type 0
