@@ -22,6 +22,7 @@ pub mod KindsLast
 pub mod KindedObjects
 pub mod KindedDeeds
 pub mod KindedWorlds
+pub mod KindedReplies
 mod Samples
 mod BootRows
 mod ModuleGraphRows
