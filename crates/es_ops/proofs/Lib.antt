@@ -29,6 +29,7 @@ mod ModuleGraphRows
 mod StoreRows
 pub mod TwoLedgers
 mod WellFormedRows
+mod KindedRows
 pub mod WellFormedRuns
 pub mod WithinRoom
 pub mod WellFormedStores
