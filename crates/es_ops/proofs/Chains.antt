@@ -57,7 +57,7 @@ append_old s t closed p b Ended = Ended
 append_old s t closed p b (Next n c) =
     Next n (subst (λ x. ChainEnds (s ++ t ∷ []) (as_object x).prototype) (sym (append_same s n t b)) (append_old s t closed (object_in s n).prototype (closed n) c))
 
-append_new : (s : Store) (t : Thing) → slice_get (s ++ t ∷ []) (length s) ≡ Some t
+pub append_new : (s : Store) (t : Thing) → slice_get (s ++ t ∷ []) (length s) ≡ Some t
 append_new [] t = refl
 append_new (x ∷ s) t = append_new s t
 

@@ -19,12 +19,17 @@ pub mod PropertiesKeep
 pub mod Prototypes
 pub mod RunsKeep
 pub mod KindsLast
+pub mod KindedObjects
+pub mod KindedDeeds
+pub mod KindedWorlds
+pub mod KindedReplies
 mod Samples
 mod BootRows
 mod ModuleGraphRows
 mod StoreRows
 pub mod TwoLedgers
 mod WellFormedRows
+mod KindedRows
 pub mod WellFormedRuns
 pub mod WithinRoom
 pub mod WellFormedStores

@@ -105,14 +105,14 @@ set_le s n t = let e = length-set s n t in omega arith
 
 -- ---- events
 
-charged_well : {A : Type 0} (P : A → Heap → Type 0) (price : Room) (a : A) (v : Heap) → ((l : Ledger) → P a (record v { ledger = l })) → IfHappens (charged price a v) P
+pub charged_well : {A : Type 0} (P : A → Heap → Type 0) (price : Room) (a : A) (v : Heap) → ((l : Ledger) → P a (record v { ledger = l })) → IfHappens (charged price a v) P
 charged_well P price a v h = by_stop (passed (plus v.ledger.used price) v.ledger.room)
   where
     by_stop : (o : Option Full) → IfHappens (charged_unless o a (record v { ledger = record v.ledger { used = plus v.ledger.used price } })) P
     by_stop None = h (record v.ledger { used = plus v.ledger.used price })
     by_stop (Some full) = tt
 
-written_well : {A : Type 0} (P : A → Heap → Type 0) (v : Heap) (n : ℕ) (before after : Thing) (p : Room) (a : A) → P a v → ((l : Ledger) → P a (record v { store = set v.store n after; ledger = l })) → IfHappens (written v n before after p a) P
+pub written_well : {A : Type 0} (P : A → Heap → Type 0) (v : Heap) (n : ℕ) (before after : Thing) (p : Room) (a : A) → P a v → ((l : Ledger) → P a (record v { store = set v.store n after; ledger = l })) → IfHappens (written v n before after p a) P
 unfolding written
 written_well P v n before after p a same h = by_test (frozen before)
   where

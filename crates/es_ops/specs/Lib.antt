@@ -22,6 +22,7 @@ pub mod ModuleGraph
 pub mod Boot
 pub mod Operate
 pub mod Kinds
+pub mod Kinded
 pub mod Laws
 pub mod Operations
 pub mod Related
