@@ -1,1 +1,3 @@
+pub mod Samples
+mod EvaluationRows
 mod ThinRows
