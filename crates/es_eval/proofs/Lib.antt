@@ -1,3 +1,4 @@
 pub mod Samples
 mod EvaluationRows
+mod StatementRows
 mod ThinRows
