@@ -1,4 +1,5 @@
 pub mod Samples
 mod EvaluationRows
 mod StatementRows
+mod StopLaws
 mod ThinRows

@@ -1,0 +1,46 @@
+-- A stop is caught by nothing, and with no unit left the next turn or call stops.
+use Rattle.std.proofs.Common.{◌≡◌, ℕ, List, refl, Option}
+use Rattle.js_value.specs.Value.{Value}
+use Rattle.es_model.specs.declared.names.Identifier.{Identifier}
+use Rattle.es_model.specs.declared.kinds.Semi.{Semi}
+use Rattle.es_model.specs.Tree as t
+use Rattle.es_model.specs.Tree.{Tree}
+use Rattle.es_ops.specs.Ledger.{Stop, Budget}
+use Rattle.es_ops.specs.Act.{Halts}
+use Rattle.es_eval.specs.Completions.{Here, Completed, Normal, Ended, Stopped, Doing, follow, body_value, as_ran, after_turn, unbroken, caught, finally_done}
+use Rattle.es_eval.specs.Environments.{Environment}
+use Rattle.es_eval.specs.Evaluation.{Smaller, meaning, in_block}
+
+-- ---- what stands behind a stop is not evaluated
+
+not_followed : {A B : Type 0} → (stop : Stop) → (h : Here) → (next : A → Doing B) → follow (Ended (Stopped stop) h) next ≡ Ended (Stopped stop) h
+not_followed stop h next = refl
+
+leaves_turn : (stop : Stop) → (h : Here) → (next : Doing (Unit {0})) → after_turn (Ended (Stopped stop) h) next ≡ Ended (Stopped stop) h
+leaves_turn stop h next = refl
+
+leaves_switch : (stop : Stop) → (h : Here) → unbroken (Ended (Stopped stop) h) ≡ Ended (Stopped stop) h
+leaves_switch stop h = refl
+
+not_caught : (stop : Stop) → (h : Here) → (catch : Value → Doing (Unit {0})) → caught (Ended (Stopped stop) h) catch ≡ Ended (Stopped stop) h
+not_caught stop h catch = refl
+
+no_finally : (stop : Stop) → (h : Here) → (finally : Doing (Unit {0})) → finally_done (Ended (Stopped stop) h) finally ≡ Ended (Stopped stop) h
+no_finally stop h finally = refl
+
+-- a body that stops halts its call, with the state as it stood
+halts_call : (stop : Stop) → (h : Here) → as_ran (body_value (Ended (Stopped stop) h)) ≡ Halts stop h.state
+halts_call stop h = refl
+
+-- ---- with no unit left
+
+abbrev spent : Here → Here
+spent h = record h { state = record h.state { meter = 0 } }
+
+while_stops : (smaller : Smaller) → (test : Tree t.expression) → (body : Tree t.statement) → (env : Environment) → (h : Here) → meaning smaller (t.While test body) env (spent h) ≡ Ended (Stopped Budget) (spent h)
+unfolding meaning
+while_stops smaller test body env h = refl
+
+do_while_stops : (smaller : Smaller) → (body : Tree t.statement) → (test : Tree t.expression) → (semi : Semi) → (env : Environment) → (h : Here) → meaning smaller (t.DoWhile body test semi) env (spent h) ≡ Ended (Stopped Budget) (spent h)
+unfolding meaning
+do_while_stops smaller body test semi env h = refl
