@@ -1,5 +1,5 @@
 -- A stop is caught by nothing, and with no unit left the next turn or call stops.
-use Rattle.std.proofs.Common.{◌≡◌, ℕ, List, refl, Option}
+use Rattle.std.proofs.Common.{◌≡◌, List, refl, ap, Option}
 use Rattle.js_value.specs.Value.{Value}
 use Rattle.es_model.specs.declared.names.Identifier.{Identifier}
 use Rattle.es_model.specs.declared.kinds.Semi.{Semi}
@@ -9,7 +9,7 @@ use Rattle.es_ops.specs.Ledger.{Stop, Budget}
 use Rattle.es_ops.specs.Act.{Halts}
 use Rattle.es_eval.specs.Completions.{Here, Completed, Normal, Ended, Stopped, Doing, follow, body_value, as_ran, after_turn, unbroken, caught, finally_done}
 use Rattle.es_eval.specs.Environments.{Environment}
-use Rattle.es_eval.specs.Evaluation.{Smaller, meaning, in_block}
+use Rattle.es_eval.specs.Evaluation.{Smaller, meaning, in_block, catching}
 
 -- ---- what stands behind a stop is not evaluated
 
@@ -31,6 +31,24 @@ no_finally stop h finally = refl
 -- a body that stops halts its call, with the state as it stood
 halts_call : (stop : Stop) → (h : Here) → as_ran (body_value (Ended (Stopped stop) h)) ≡ Halts stop h.state
 halts_call stop h = refl
+
+-- ---- `try`: where its block stops, it stops there
+
+catch_stops : (smaller : Smaller) → (block catch : Tree (t.list t.statement)) → (name : Option Identifier) → (env : Environment) → (stop : Stop) → (h k : Here) →
+    in_block block (meaning smaller block) env h ≡ Ended (Stopped stop) k → meaning smaller (t.Try block name (t.present catch) t.absent) env h ≡ Ended (Stopped stop) k
+unfolding meaning
+catch_stops smaller block catch name env stop h k stopped = ap (λ c. caught c (catching name catch (meaning smaller catch) env)) stopped
+
+finally_stops : (smaller : Smaller) → (block finally : Tree (t.list t.statement)) → (name : Option Identifier) → (env : Environment) → (stop : Stop) → (h k : Here) →
+    in_block block (meaning smaller block) env h ≡ Ended (Stopped stop) k → meaning smaller (t.Try block name t.absent (t.present finally)) env h ≡ Ended (Stopped stop) k
+unfolding meaning
+finally_stops smaller block finally name env stop h k stopped = ap (λ c. finally_done c (in_block finally (meaning smaller finally) env)) stopped
+
+catch_finally_stops : (smaller : Smaller) → (block catch finally : Tree (t.list t.statement)) → (name : Option Identifier) → (env : Environment) → (stop : Stop) → (h k : Here) →
+    in_block block (meaning smaller block) env h ≡ Ended (Stopped stop) k → meaning smaller (t.Try block name (t.present catch) (t.present finally)) env h ≡ Ended (Stopped stop) k
+unfolding meaning
+catch_finally_stops smaller block catch finally name env stop h k stopped =
+    ap (λ c. finally_done (caught c (catching name catch (meaning smaller catch) env)) (in_block finally (meaning smaller finally) env)) stopped
 
 -- ---- with no unit left
 
