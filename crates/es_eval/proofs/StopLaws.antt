@@ -1,15 +1,17 @@
 -- A stop is caught by nothing, and with no unit left the next turn or call stops.
 use Rattle.std.proofs.Common.{◌≡◌, List, refl, ap, Option}
-use Rattle.js_value.specs.Value.{Value}
+use Rattle.js_value.specs.Value.{Value, Text}
 use Rattle.es_model.specs.declared.names.Identifier.{Identifier}
 use Rattle.es_model.specs.declared.kinds.Semi.{Semi}
 use Rattle.es_model.specs.Tree as t
 use Rattle.es_model.specs.Tree.{Tree}
 use Rattle.es_ops.specs.Ledger.{Stop, Budget}
-use Rattle.es_ops.specs.Act.{Halts}
+use Rattle.es_ops.specs.Act.{Calls, NormalCompletion, Ends, Halts, run, returned, spent as use_unit}
+use Rattle.es_ops.specs.Calling.{may_be_called, entered, left, body_of, by_rules}
+use Rattle.es_ops.specs.State.{State}
 use Rattle.es_eval.specs.Completions.{Here, Completed, Normal, Ended, Stopped, Doing, follow, body_value, as_ran, after_turn, unbroken, caught, finally_done}
 use Rattle.es_eval.specs.Environments.{Environment}
-use Rattle.es_eval.specs.Evaluation.{Smaller, meaning, in_block, catching}
+use Rattle.es_eval.specs.Evaluation.{Smaller, meaning, in_block, catching, for_turn}
 
 -- ---- what stands behind a stop is not evaluated
 
@@ -62,3 +64,14 @@ while_stops smaller test body env h = refl
 do_while_stops : (smaller : Smaller) → (body : Tree t.statement) → (test : Tree t.expression) → (semi : Semi) → (env : Environment) → (h : Here) → meaning smaller (t.DoWhile body test semi) env (spent h) ≡ Ended (Stopped Budget) (spent h)
 unfolding meaning
 do_while_stops smaller body test semi env h = refl
+
+for_turn_stops : (copied : List Text) → (test step : Text → Environment → Doing (Option Value)) → (body again : Environment → Doing (Unit {0})) → (env : Environment) → (h : Here) →
+    for_turn copied test step body again env (spent h) ≡ Ended (Stopped Budget) (spent h)
+for_turn_stops copied test step body again env h = refl
+
+-- a call that is allowed takes its unit before its body
+call_stops : (all : Calls) → (f this : Value) → (arguments : List Value) → (target : Option Value) → (v : Value) → (s k : State) →
+    run all (may_be_called f target) s ≡ Ends (NormalCompletion v) (record k { meter = 0 }) → by_rules all f this arguments target s ≡ Halts Budget (record k { meter = 0 })
+unfolding by_rules
+call_stops all f this arguments target v s k allowed =
+    ap (λ r. returned r (λ _ s. use_unit s.meter s (λ s. left s.depth (entered s (body_of all f this arguments target))))) allowed
