@@ -1,5 +1,5 @@
 -- Rows of expressions: each form once, in a body with a few bindings.
-use Rattle.std.proofs.Common.{◌≡◌, true, false, List, [], ◌∷◌, refl, pos, codes, Some, None}
+use Rattle.std.proofs.Common.{◌≡◌, true, false, [], ◌∷◌, refl, pos, codes, Some, None}
 use Rattle.js_value.specs.Value.{Undefined, Null, Boolean, String, Object}
 use Rattle.es_model.specs.declared.kinds.BinaryOperator.TheVariants as b
 use Rattle.es_model.specs.declared.kinds.MemberKind.TheVariants as m

@@ -1,5 +1,5 @@
 -- Rows of small modules: functions, classes and bindings, by what main exports as its default.
-use Rattle.std.proofs.Common.{◌≡◌, true, false, List, [], ◌∷◌, refl, codes, Some, None}
+use Rattle.std.proofs.Common.{◌≡◌, true, false, [], ◌∷◌, refl, codes, Some, None}
 use Rattle.js_value.specs.Value.{Undefined, Boolean}
 use Rattle.es_model.specs.declared.kinds.BinaryOperator.TheVariants as b
 use Rattle.es_model.specs.declared.kinds.FunctionKind.TheVariants as f

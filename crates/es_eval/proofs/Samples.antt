@@ -1,7 +1,7 @@
 -- A small world for the rows, and ways to look at what an evaluation came to.
-use Rattle.std.proofs.Common.{ℕ, Bool, true, false, List, [], ◌∷◌, ◌++◌, Option, Some, None, pos, codes}
-use Rattle.js_value.specs.Value.{Value, Undefined, Number, String, Object, Text, same_text}
-use Rattle.js_value.specs.Store.{Thing, AnObject, ACell, Class, Ordinary, Array, Property, Content, Data, Store, found, object_in, cell_in, mark_in, own_property, with_property, without_property, is_frozen}
+use Rattle.std.proofs.Common.{ℕ, true, false, List, [], ◌∷◌, Option, Some, None, pos, codes}
+use Rattle.js_value.specs.Value.{Value, Number, String, Object, Text, same_text}
+use Rattle.js_value.specs.Store.{Thing, AnObject, ACell, Ordinary, Property, Content, Data, Store, found, object_in, cell_in, mark_in, own_property, with_property, without_property, is_frozen}
 use Rattle.js_value.specs.declared.counts.Room.{Room}
 use Rattle.js_value.specs.Literal.{literal_number, digits_number}
 use Rattle.js_value.specs.Numeral.{is_white_space}
@@ -29,7 +29,7 @@ use Rattle.es_ops.specs.PropertyReads.{is_callable, property_value, get, has_pro
 use Rattle.es_ops.specs.PropertyWrites.{define_own_property as define_with_length, define_property_or_throw, create_data_property, create_data_property_or_throw, ordinary_set, set_v, set_or_throw, put_value, delete_property_or_throw, delete_v}
 use Rattle.es_ops.specs.References.{require_object_coercible, get_by_value, put_by_value, delete_by_value, key_by_value, ordinary_get, super_get, super_set}
 use Rattle.es_eval.specs.ModuleTables.{ModuleTable, FunctionRow, module_table, sorts}
-use Rattle.es_eval.specs.Completions.{Here, Completed, as_ran, body_value}
+use Rattle.es_eval.specs.Completions.{Here, as_ran, body_value}
 use Rattle.es_eval.specs.Environments.{Environment, Place, Own, Kept, Taken, Bound}
 use Rattle.es_eval.specs.Evaluation.{meaning, turns, bodies, evaluator}
 use Rattle.es_eval.specs.Boot.{engine, outer_calls}

@@ -1,5 +1,5 @@
 -- Rows of statements: each form, and how each completion leaves it.
-use Rattle.std.proofs.Common.{◌≡◌, true, false, List, [], ◌∷◌, refl, codes, Some, None}
+use Rattle.std.proofs.Common.{◌≡◌, true, false, [], ◌∷◌, refl, codes, Some, None}
 use Rattle.js_value.specs.Value.{Undefined}
 use Rattle.es_model.specs.declared.kinds.BinaryOperator.TheVariants as b
 use Rattle.es_model.specs.declared.kinds.Semi.TheVariants as semi

@@ -9,7 +9,7 @@ use Rattle.es_ops.specs.Ledger.{Stop, Budget}
 use Rattle.es_ops.specs.Act.{Calls, NormalCompletion, Ends, Halts, run, returned, spent as use_unit}
 use Rattle.es_ops.specs.Calling.{may_be_called, entered, left, body_of, by_rules}
 use Rattle.es_ops.specs.State.{State}
-use Rattle.es_eval.specs.Completions.{Here, Completed, Normal, Ended, Stopped, Doing, follow, body_value, as_ran, after_turn, unbroken, caught, finally_done}
+use Rattle.es_eval.specs.Completions.{Here, Ended, Stopped, Doing, follow, body_value, as_ran, after_turn, unbroken, caught, finally_done}
 use Rattle.es_eval.specs.Environments.{Environment}
 use Rattle.es_eval.specs.Evaluation.{Smaller, meaning, in_block, catching, for_turn}
 
