@@ -1,1 +1,6 @@
+pub mod Samples
+mod EvaluationRows
+mod FunctionRows
+mod StatementRows
+mod StopLaws
 mod ThinRows
