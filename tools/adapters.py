@@ -138,12 +138,12 @@ def agreement(definitions, program):
     given = definitions.bytes(program.input)
     by_machine, told = end_of(
         definitions, definitions.call('es_machine/Bodies.engine', code.table, definitions.value('es_rows/BuiltIns.row'), MOST_STEPS),
-        definitions.call('es_machine/Boot.start', code.table, limits),
-        lambda state: definitions.call('es_machine/Boot.for_main', main_limits, given, state), program)
+        definitions.call('es_rows/Start.start', definitions.call('es_machine/Tables.sorts_in', code.table), code.names, limits),
+        lambda state: definitions.call('es_ops/Boot.for_main', main_limits, given, state), program)
     by_evaluation, _ = end_of(
         definitions, definitions.call('es_eval/Boot.engine', tables),
-        definitions.call('es_eval/Boot.start', tables, code.names, limits),
-        lambda state: definitions.call('es_eval/Boot.for_main', main_limits, given, state), program)
+        definitions.call('es_rows/Start.start', definitions.call('es_eval/ModuleTables.sorts', tables), code.names, limits),
+        lambda state: definitions.call('es_ops/Boot.for_main', main_limits, given, state), program)
     found = list(differences(definitions.plain(by_machine), definitions.plain(by_evaluation)))
     if found:
         raise NotRun(f'machine and evaluation differ in {len(found)} places: ' + '; '.join(found[:3]))

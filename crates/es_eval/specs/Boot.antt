@@ -6,13 +6,11 @@ use Rattle.es_model.specs.Tree as t
 use Rattle.es_model.specs.Tree.{Tree}
 use Rattle.es_model.specs.Scopes.{default_names}
 use Rattle.es_model.specs.declared.names.Identifier.{Identifier}
-use Rattle.es_ops.specs.Intrinsics.{PrintCell, ReadCell}
-use Rattle.es_ops.specs.State.{State, World, Limits, NotEvaluated, cells_of, nothing, room_of}
-use Rattle.es_ops.specs.Events.{TheIntrinsic, reply}
+use Rattle.es_ops.specs.State.{State, World, Limits, cells_of}
 use Rattle.es_ops.specs.Act.{Give, Call, NormalCompletion, Ran, Ends, run}
-use Rattle.es_ops.specs.ModuleGraph.{ModuleRecord, ModuleImport, GraphFault, Print, Read, Resolution, OfHost, ExportOf, resolve_export}
-use Rattle.es_ops.specs.Boot.{Engine, state_of_module, local_bindings_of, export_cell_in, Preloading, Ready, Refused, Refusal, OfGraph, preloaded, Started, Starts, NoPlan, started, gone, Told, told}
-use Rattle.es_rows.specs.Realm.{realm_store, realm_places}
+use Rattle.es_ops.specs.ModuleGraph.{ModuleRecord}
+use Rattle.es_ops.specs.Boot.{Engine, state_of_module, Ending, imported_cells, boot as boot_by}
+use Rattle.es_rows.specs.Start.{start}
 use Rattle.es_eval.specs.ModuleTables.{FunctionRow, ModuleTable, sorts}
 use Rattle.es_eval.specs.Completions.{Here, Completed, Doing, follow, ◌>>=◌, ◌>>◌, pure, done, body_value, as_ran}
 use Rattle.es_eval.specs.Environments.{Environment, outer_names, initialise_name, Hoisted, hoisted_by}
@@ -23,15 +21,6 @@ use Rattle.es_eval.specs.Evaluation.{Smaller, calls, meaning, evaluator, here, e
 
 abbrev pub graphs : List ModuleTable → List ModuleRecord
 graphs tables = map (λ m. m.graph) tables
-
-abbrev pub cell_of_resolution : List ModuleRecord → World → Resolution → ℕ
-cell_of_resolution ms w (OfHost Print) = reply (TheIntrinsic PrintCell) w
-cell_of_resolution ms w (OfHost Read) = reply (TheIntrinsic ReadCell) w
-cell_of_resolution ms w (ExportOf n place) = export_cell_in (local_bindings_of ms n) (state_of_module w n) place
-cell_of_resolution ms w other = 0
-
-abbrev pub imported_cells : List ModuleRecord → World → List ModuleImport → List ℕ
-imported_cells ms w imports = map (λ i. cell_of_resolution ms w (resolve_export ms i.request i.name)) imports
 
 abbrev pub top_cells : List ModuleTable → World → (number : ℕ) → ModuleTable → List ℕ
 top_cells tables w n m = cells_of (state_of_module w n) ++ imported_cells (graphs tables) w m.graph.imports
@@ -104,52 +93,7 @@ module _ (tables : List ModuleTable) where
     calls = outer_calls;
   }
 
--- ---- the start: the realm, and all modules new; `names` are the texts that are names from the start
-
-abbrev pub start : List ModuleTable → (names : List Text) → Limits → State
-start tables names limits = record {
-  meter = limits.budget;
-  depth = 0;
-  world = record {
-    heap = record {
-      store = realm_store;
-      realm = realm_places;
-      names = names;
-      ledger = record { used = nothing; room = room_of limits names; first_costs = [] };
-      jobs = [];
-    };
-    rejections = [];
-    modules = map (λ m. NotEvaluated) tables;
-    functions = sorts tables;
-    trace = [];
-    input = None;
-  };
-}
-
--- Main starts with no counts. The limit of names is less those that are known, the preloads' new ones among them.
-abbrev pub for_main : Limits → (input : List ℕ) → State → State
-for_main limits input s = record s {
-  meter = limits.budget;
-  world = record s.world {
-    input = Some input;
-    heap = record s.world.heap { ledger = record { used = nothing; room = room_of limits s.world.heap.names; first_costs = [] } };
-  };
-}
-
--- ---- preloads, main and its jobs
-
-pub data Ending : Type 0 where
-  Tells : Told → Ending
-  Refuses : Refusal → Ending
-
-abbrev pub ending : Engine → (main : Text) → Started → Ending
-ending e main (Starts outcome) = Tells (told e main (gone e None outcome))
-ending e main (NoPlan fault) = Refuses (OfGraph fault)
-
-abbrev pub main_after : Engine → (main : Text) → (State → State) → Preloading → Ending
-main_after e main prepared (Ready s) = ending e main (started e main (prepared s))
-main_after e main prepared (Refused refusal) = Refuses refusal
+-- ---- a boot from the realm on; `names` are the texts that are names from the start
 
 unfoldable pub boot : List ModuleTable → (names : List Text) → (preloads : List Text) → (of_preloads : Limits) → (main : Text) → (input : List ℕ) → Limits → Ending
-boot tables names preloads of_preloads main input limits =
-    main_after (engine tables) main (for_main limits input) (preloaded (engine tables) preloads (start tables names of_preloads))
+boot tables names preloads of_preloads main input limits = boot_by (engine tables) preloads (start (sorts tables) names of_preloads) main input limits

@@ -8,16 +8,14 @@ use Rattle.byte_code.specs.declared.records.CodeImport.{CodeImport}
 use Rattle.byte_code.specs.declared.records.CodeExport.{CodeExport}
 use Rattle.byte_code.specs.declared.records.CodeExport.TheVariants.{Local, From}
 use Rattle.js_value.specs.Value.{Undefined, Object}
-use Rattle.es_ops.specs.Intrinsics.{PrintCell, ReadCell}
 use Rattle.es_ops.specs.State.{State, World, cells_of}
 use Rattle.es_ops.specs.Ledger.{Budget}
-use Rattle.es_ops.specs.Events.{TheIntrinsic, reply}
 use Rattle.es_ops.specs.Act.{Act, Give, Call, NormalCompletion, Calls, Ran, Ends, Halts, returned, run}
 use Rattle.es_ops.specs.Bindings.{initialize_cell}
 use Rattle.es_ops.specs.Making.{make_function}
 use Rattle.es_ops.specs.Jobs.{run_first_job}
-use Rattle.es_ops.specs.ModuleGraph.{ModuleRecord, ModuleImport, ModuleExport, LocalExport, IndirectExport, Print, Read, Resolution, OfHost, ExportOf, resolve_export}
-use Rattle.es_ops.specs.Boot.{Engine, state_of_module, local_bindings_of, export_cell_in}
+use Rattle.es_ops.specs.ModuleGraph.{ModuleRecord, ModuleImport, ModuleExport, LocalExport, IndirectExport}
+use Rattle.es_ops.specs.Boot.{Engine, state_of_module, imported_cells}
 use Rattle.es_machine.specs.Tables.{name_in}
 use Rattle.es_machine.specs.Frames.{Frame, Config, Running, Performing, Finished}
 use Rattle.es_machine.specs.Instructions.{with_function}
@@ -45,15 +43,6 @@ abbrev pub records_of : Modules → List ModuleRecord
 records_of table = map (record_of table) table.modules
 
 -- ---- the cells of a body: those of its top-level bindings, then those of its imports
-
-abbrev pub cell_of_resolution : List ModuleRecord → World → Resolution → ℕ
-cell_of_resolution ms w (OfHost Print) = reply (TheIntrinsic PrintCell) w
-cell_of_resolution ms w (OfHost Read) = reply (TheIntrinsic ReadCell) w
-cell_of_resolution ms w (ExportOf n place) = export_cell_in (local_bindings_of ms n) (state_of_module w n) place
-cell_of_resolution ms w other = 0
-
-abbrev pub imported_cells : List ModuleRecord → World → List ModuleImport → List ℕ
-imported_cells ms w imports = map (λ i. cell_of_resolution ms w (resolve_export ms i.request i.name)) imports
 
 abbrev pub outer_cells : Modules → World → ℕ → ModuleCode → List ℕ
 outer_cells table w n m = cells_of (state_of_module w n) ++ imported_cells (records_of table) w (map (import_of table) m.imports)

@@ -7,14 +7,15 @@ use Rattle.js_value.specs.Store.{Store, Property, Content, Data, Class, Promise,
 use Rattle.js_value.specs.Job.{Job}
 use Rattle.js_value.specs.declared.counts.Full.{Full}
 use Rattle.js_value.specs.declared.counts.Full.TheVariants.{Slots, Units, Names}
-use Rattle.es_ops.specs.State.{World, State, ModuleState, NotEvaluated, SetUp, Evaluated, Preloaded, TraceEvent}
+use Rattle.es_ops.specs.State.{World, State, Limits, ModuleState, NotEvaluated, SetUp, Evaluated, Preloaded, TraceEvent, nothing, room_of, costs_at_start}
 use Rattle.es_ops.specs.InternalMethods.{find_property}
 use Rattle.es_ops.specs.Ledger.{Stop, Budget, Depth, OutOf, NoHost}
-use Rattle.es_ops.specs.Events.{Make, perform}
+use Rattle.es_ops.specs.Intrinsics.{PrintCell, ReadCell}
+use Rattle.es_ops.specs.Events.{Make, perform, TheIntrinsic, reply}
 use Rattle.es_ops.specs.Act.{Calls, Completion, NormalCompletion, ThrowCompletion, Ran, Ends, Halts, run, happened, returned}
 use Rattle.es_ops.specs.Jobs.{run_first_job}
 use Rattle.es_ops.specs.Host.{written, line_events}
-use Rattle.es_ops.specs.ModuleGraph.{ModuleRecord, ModuleExport, LocalExport, IndirectExport, Planned, Plan, Faulty, GraphFault, Resolution, ExportOf, plan, module_at, resolve_export}
+use Rattle.es_ops.specs.ModuleGraph.{ModuleRecord, ModuleImport, ModuleExport, LocalExport, IndirectExport, Planned, Plan, Faulty, GraphFault, Print, Read, Resolution, OfHost, ExportOf, NotExported, Circular, plan, module_at, resolve_export}
 
 -- ---- engines
 
@@ -60,8 +61,15 @@ export_cell_in bindings (Evaluated exports) place = get_or exports place 0
 export_cell_in bindings (Preloaded exports) place = get_or exports place 0
 export_cell_in bindings NotEvaluated place = 0
 
-abbrev pub export_cell : Engine → World → (number place : ℕ) → ℕ
-export_cell e w n place = export_cell_in (local_bindings_of e.modules n) (state_of_module w n) place
+-- the cell of a binding that is imported; what resolves to nothing was refused by the plan
+abbrev pub cell_of_resolution : List ModuleRecord → World → Resolution → ℕ
+cell_of_resolution ms w (OfHost Print) = reply (TheIntrinsic PrintCell) w
+cell_of_resolution ms w (OfHost Read) = reply (TheIntrinsic ReadCell) w
+cell_of_resolution ms w (ExportOf n place) = export_cell_in (local_bindings_of ms n) (state_of_module w n) place
+cell_of_resolution ms w other = 0
+
+abbrev pub imported_cells : List ModuleRecord → World → List ModuleImport → List ℕ
+imported_cells ms w imports = map (λ i. cell_of_resolution ms w (resolve_export ms i.request i.name)) imports
 
 -- A module whose body ran keeps the cells of its exports alone.
 abbrev pub evaluated_state : List ℕ → ModuleState → ModuleState
@@ -261,12 +269,13 @@ abbrev pub rejection_lines : Store → List ℕ → List Text
 rejection_lines s ns = map (λ n. codes "rejected: " ++ told_text s (reason_of (object_in s n).class)) ns
 
 -- the value of main's default export, where it is a binding that has one
-abbrev pub resolved_value : Engine → World → Resolution → Option Value
-resolved_value e w (ExportOf n place) = (cell_in w.heap.store (export_cell e w n place)).value
-resolved_value e w r = None
+abbrev pub resolved_value : List ModuleRecord → World → Resolution → Option Value
+resolved_value ms w NotExported = None
+resolved_value ms w Circular = None
+resolved_value ms w r = (cell_in w.heap.store (cell_of_resolution ms w r)).value
 
 abbrev pub default_export : Engine → (main : Text) → State → Option Value
-default_export e main s = resolved_value e s.world (resolve_export e.modules main (codes "default"))
+default_export e main s = resolved_value e.modules s.world (resolve_export e.modules main (codes "default"))
 
 -- told where it is a primitive other than undefined
 abbrev pub result_lines : Store → Option Value → List Text
@@ -283,3 +292,35 @@ unfoldable pub told : Engine → (main : Text) → Outcome → Told
 told e main (Stopped stop s) = with_lines 5 s ((codes "stopped: " ++ name_of_stop stop) ∷ [])
 told e main (Threw v s) = with_lines 1 s ((codes "uncaught: " ++ told_text s.world.heap.store v) ∷ [])
 told e main (Finished s) = told_at_end s (default_export e main s) s.world.rejections
+
+-- ---- preloads, main and its jobs
+
+-- Main starts with no counts. The limit of names is less those that are known, the preloads' new ones among them.
+abbrev pub for_main : Limits → (input : List ℕ) → State → State
+for_main limits input s = record s {
+  meter = limits.budget;
+  world = record s.world {
+    input = Some input;
+    heap = record s.world.heap { ledger = record { used = nothing; room = room_of limits s.world.heap.names; first_costs = costs_at_start limits.first_writes s.world.heap.store } };
+  };
+}
+
+pub data Ending : Type 0 where
+  Tells : Told → Ending
+  Refuses : Refusal → Ending
+
+abbrev pub ending : Engine → (main : Text) → Started → Ending
+ending e main (Starts outcome) = Tells (told e main (gone e None outcome))
+ending e main (NoPlan fault) = Refuses (OfGraph fault)
+
+-- main and its jobs from a state, such as the one that an image holds
+unfoldable pub ran : Engine → (main : Text) → State → Ending
+ran e main s = ending e main (started e main s)
+
+abbrev pub main_after : Engine → (main : Text) → (State → State) → Preloading → Ending
+main_after e main prepared (Ready s) = ran e main (prepared s)
+main_after e main prepared (Refused refusal) = Refuses refusal
+
+-- from the state of a start on, whose limits are those of the preloads
+unfoldable pub boot : Engine → (preloads : List Text) → (start : State) → (main : Text) → (input : List ℕ) → Limits → Ending
+boot e preloads start main input limits = main_after e main (for_main limits input) (preloaded e preloads start)

@@ -19,3 +19,4 @@ pub mod ArrayWrites
 pub mod Array
 pub mod BuiltIns
 pub mod Realm
+pub mod Start

@@ -1,0 +1,17 @@
+import { print } from "host";
+let log = "";
+const t = (name, f) => { log = ""; let r; try { r = String(f()); } catch (e) { r = "throws " + (typeof e === "object" ? e.name : e); } print(name + ": " + r + " " + log); };
+const L = s => { log += s; return s; };
+t("f1", () => { try { return L("a"); } finally { L("b"); } });
+t("f2", () => { try { throw L("a"); } catch (e) { return e + "c"; } finally { L("f"); } });
+t("f3", () => { try { throw L("a"); } finally { return L("f"); } });
+t("f4", () => { for (let i = 0; i < 3; i++) { try { if (i === 1) continue; L("" + i); } finally { L("f"); } } return "end"; });
+t("f5", () => { for (let i = 0; i < 3; i++) { try { if (i === 1) break; L("" + i); } finally { L("f"); } } return "end"; });
+t("f6", () => { for (let i = 0; i < 3; i++) { try { return "r" + i; } finally { L("f"); if (i < 2) continue; } } return "end"; });
+t("f7", () => { while (true) { try { throw 1; } finally { break; } } return "end"; });
+t("f8", () => { try { try { return L("a"); } finally { L("b"); throw L("c"); } } catch (e) { return "caught" + e; } finally { L("d"); } });
+t("f9", () => { try { try { throw 1; } catch (e) { L("c" + e); throw 2; } finally { L("f1"); } } catch (e) { L("d" + e); return "x"; } finally { L("f2"); } });
+t("f11", () => { let i = 0; do { try { i++; if (i === 2) continue; if (i === 4) return i; L("b" + i); } catch (e) { L("never"); } finally { L("f" + i); } } while (i < 5); return "end"; });
+t("f12", () => { switch (1) { case 1: try { break; } finally { L("f"); } case 2: L("two"); } return "end"; });
+t("f13", () => { for (let i = 0; i < 2; i++) { switch (i) { case 0: try { continue; } finally { L("f"); } case 1: L("one"); } L("after"); } return "end"; });
+t("f14", () => { const g = () => { try { return L("v"); } finally { try { return L("w"); } finally { L("x"); } } }; return g(); });

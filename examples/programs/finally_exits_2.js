@@ -1,0 +1,17 @@
+import { print } from "host";
+let log = "";
+const t = (name, f) => { log = ""; let r; try { r = String(f()); } catch (e) { r = "throws " + (typeof e === "object" ? e.name : e); } print(name + ": " + r + " " + log); };
+const L = s => { log += s; return s; };
+t("f15", () => { let x = 1; const g = () => { try { return x; } finally { x = 2; } }; return g() + "," + x; });
+t("f16", () => { try { } finally { L("f"); } try { } catch (e) { } try { } catch { } finally { L("g"); } return "end"; });
+t("f17", () => { try { throw 1; } catch { L("c"); } return "end"; });
+t("f18", () => { try { try { throw 1; } finally { try { throw 2; } catch (e) { L("in" + e); } } } catch (e) { return "out" + e; } });
+t("f19", () => { for (let i = 0; i < 3; i++) { for (let j = 0; j < 3; j++) { try { try { if (j === 1) break; if (i === 1) continue; L("" + i + j); } finally { L("a"); } } finally { L("b"); } } } return "end"; });
+t("f20", () => { const fs = []; for (let i = 0; i < 3; i++) { try { fs.push(() => i); if (i === 1) continue; } finally { fs.push(() => "f" + i); } } return fs.map(f => f()).join(); });
+t("f21", () => { try { return; } finally { L("f"); } });
+t("f22", () => { const g = () => { try { throw L("t"); } catch (e) { try { throw L("u"); } catch (e) { L("i" + e); } return L("o" + e); } finally { L("z"); } }; return g(); });
+t("f23", () => { const fs = []; try { throw 5; } catch (e) { fs.push(() => e++); fs.push(() => e); let y = e; fs.push(() => y); } return fs.map(f => f()).join(); });
+t("f24", () => { let s = ""; for (let i = 0; ; i++) { try { if (i > 2) { s += "B"; break; } try { if (i === 1) throw i; } catch (e) { s += "c"; continue; } finally { s += "f"; } s += i; } finally { s += "o"; } } return s; });
+t("f25", () => { class E extends Error { constructor() { super("m"); try { return; } finally { L("f"); this.z = 1; } } } return new E().z; });
+t("f26", () => { class P { } class D extends P { constructor() { try { super(); } finally { L("f"); } } } return new D() instanceof P; });
+t("f27", () => { class P { constructor() { throw "p"; } } class D extends P { constructor() { try { super(); } catch (e) { L(e); } } } return new D(); });

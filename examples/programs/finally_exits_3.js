@@ -1,0 +1,15 @@
+import { print } from "host";
+let log = "";
+const t = (name, f) => { log = ""; let r; try { r = String(f()); } catch (e) { r = "throws " + (typeof e === "object" ? e.name : e); } print(name + ": " + r + " " + log); };
+const L = s => { log += s; return s; };
+t("f28", () => { class P { } class D extends P { constructor() { try { super(); super(); } catch (e) { L(e.name); } } } return new D() instanceof D; });
+t("f29", () => { class P { } class D extends P { constructor() { return 5; } } return new D(); });
+t("f30", () => { class P { } class D extends P { constructor() { super(); return 5; } } return new D(); });
+t("f31", () => { class P { } class D extends P { constructor() { try { return 5; } catch (e) { L("no"); } finally { L("f"); } } } return new D(); });
+t("f32", () => { class P { } class D extends P { constructor() { return { z: 3 }; } } return new D().z; });
+t("f33", () => { class P { constructor() { return 5; } } return new P() instanceof P; });
+t("f34", () => { class P { } class D extends P { constructor() { const f = () => this; try { f(); } catch (e) { L(e.name); } super(); this.q = 1; return f(); } } return new D().q; });
+t("f35", () => { function F() { return 5; } return new F() instanceof F; });
+t("f36", () => { function F() { return () => 1; } return typeof new F(); });
+t("f37", () => { class P { } class D extends P { constructor() { this.x = 1; super(); } } return new D(); });
+t("f38", () => { class P { } class D extends P { constructor() { } } return new D(); });

@@ -1,0 +1,10 @@
+import { print } from "host";
+let log = "";
+const t = f => { log = ""; let r; try { const v = f(); r = typeof v === "object" && v !== null || typeof v === "function" ? Object.prototype.toString.call(v) : String(v); } catch (e) { r = typeof e === "object" ? e.name : e; } print(r + " " + log); };
+const n = (s, v) => { log += s; return v; };
+const ob = (s, v) => ({ valueOf() { log += s + "v"; return v; }, toString() { log += s + "s"; return "" + v; } });
+const bad = s => ({ valueOf() { log += s + "v"; return {}; }, toString() { log += s + "s"; return {}; } });
+t(() => ob("a", 1) + ob("b", 2)); t(() => ob("a", 1) - ob("b", 2)); t(() => ob("a", 1) < ob("b", 2)); t(() => ob("a", 1) > ob("b", 2)); t(() => ob("a", 1) <= ob("b", 2)); t(() => ob("a", 1) >= ob("b", 2));
+t(() => `${ob("a", 1)}${n("x", 1)}${ob("b", 2)}`); t(() => ob("a", 1) == 1); t(() => "1" == ob("a", 1)); t(() => true == ob("a", 1)); t(() => ob("a", 1) == true); t(() => ob("a", 1) === 1); t(() => ob("a", 1) == null); t(() => ob("a", 1) != undefined);
+t(() => bad("a") + 1); t(() => bad("a") - bad("b")); t(() => `${bad("a")}`); t(() => -bad("a")); t(() => ({})[bad("k")]); t(() => bad("k") in {}); t(() => bad("k") in 1);
+t(() => null[n("k", ob("K", 1))]); t(() => { null[n("k", ob("K", 1))] = n("v", 1); }); t(() => { delete null[ob("K", 1)]; }); t(() => { delete undefined.x; });

@@ -1,0 +1,10 @@
+import { print } from "host";
+let log = "";
+const t = f => { log = ""; let r; try { const v = f(); r = typeof v === "object" && v !== null || typeof v === "function" ? Object.prototype.toString.call(v) : String(v); } catch (e) { r = typeof e === "object" ? e.name : e; } print(r + " " + log); };
+const n = (s, v) => { log += s; return v; };
+const ob = (s, v) => ({ valueOf() { log += s + "v"; return v; }, toString() { log += s + "s"; return "" + v; } });
+const bad = s => ({ valueOf() { log += s + "v"; return {}; }, toString() { log += s + "s"; return {}; } });
+t(() => { const o = {}; o[ob("K", 1)] = n("v", 2); return o[1]; }); t(() => { const o = { 1: 5 }; return o[ob("K", 1)]; });
+t(() => { const o = { 1: 5 }; o[ob("K", 1)] += n("v", 2); return o[1]; }); t(() => { const o = { 1: 5 }; return o[ob("K", 1)]++ + "/" + o[1]; }); t(() => { const o = { 1: 5 }; return --o[ob("K", 1)] + "/" + o[1]; });
+t(() => { const o = { get x() { log += "g"; return ob("G", 4); }, set x(v) { log += "s" + v; } }; return o.x++; }); t(() => { const o = { get x() { log += "g"; return ob("G", 4); }, set x(v) { log += "s" + v; } }; return ++o.x; }); t(() => { const o = { get x() { log += "g"; return ob("G", 4); }, set x(v) { log += "s" + v; } }; return o.x **= n("r", ob("R", 2)); });
+t(() => { let x = ob("X", 3); const y = x++; return y + "," + x; }); t(() => { let x = "5"; const y = x--; return typeof y + y + x; }); t(() => { let x = "5"; x += 1; return x; }); t(() => { let x = true; x += 1; return x; }); t(() => { let x = null; return ++x; });

@@ -1,0 +1,10 @@
+import { print } from "host";
+let log = "";
+const t = f => { log = ""; let r; try { const v = f(); r = typeof v === "object" && v !== null || typeof v === "function" ? Object.prototype.toString.call(v) : String(v); } catch (e) { r = typeof e === "object" ? e.name : e; } print(r + " " + log); };
+const n = (s, v) => { log += s; return v; };
+const ob = (s, v) => ({ valueOf() { log += s + "v"; return v; }, toString() { log += s + "s"; return "" + v; } });
+const bad = s => ({ valueOf() { log += s + "v"; return {}; }, toString() { log += s + "s"; return {}; } });
+t(() => n("a", { f: undefined }).f(n("b", 1))); t(() => n("a", 5)(n("b", 1))); t(() => new (n("a", 5))(n("b", 1))); t(() => n("a", 5).x.y(n("b"))); t(() => n("a", undefined).x(n("b")));
+t(() => n("a", 5) instanceof n("b", 5)); t(() => 5 instanceof n("b", function () { })); t(() => ({}) instanceof (() => 1)); t(() => 5 instanceof (() => 1)); t(() => { function F() { } F.prototype = 1; return {} instanceof F; }); t(() => { function F() { } F.prototype = 1; return 1 instanceof F; });
+t(() => typeof bad("x")); t(() => !bad("x")); t(() => void bad("x")); t(() => (n("a"), n("b", 7))); t(() => n("a", 0) || n("b", "") || n("c", null)); t(() => n("a", 1) && n("b", "") && n("c", null)); t(() => n("a", null) ?? n("b", undefined) ?? n("c", 0) ?? n("d", 1)); t(() => n("a", "") ? n("b") : n("c", 3));
+t(() => [n("a", 1), n("b", 2)].join(n("c", "-"))); t(() => Object.keys({ [n("a", "x")]: n("b", 1), [ob("K", 7)]: n("c"), m: n("d") }).join()); t(() => { class C { [n("a", "m1")]() { } static [n("b", "m2")]() { } get [n("c", "m3")]() { return 1; } set [ob("d", "m4")](v) { } } return Object.getOwnPropertyNames(C.prototype).join() + Object.getOwnPropertyNames(C).join(); });

@@ -1,0 +1,10 @@
+import { print } from "host";
+let log = "";
+const t = f => { log = ""; let r; try { const v = f(); r = typeof v === "object" && v !== null || typeof v === "function" ? Object.prototype.toString.call(v) : String(v); } catch (e) { r = typeof e === "object" ? e.name : e; } print(r + " " + log); };
+const n = (s, v) => { log += s; return v; };
+const ob = (s, v) => ({ valueOf() { log += s + "v"; return v; }, toString() { log += s + "s"; return "" + v; } });
+const bad = s => ({ valueOf() { log += s + "v"; return {}; }, toString() { log += s + "s"; return {}; } });
+t(() => { class C extends n("p", Object) { [n("a", "m1")]() { } } return 1; }); t(() => { class C extends n("p", null) { [n("a", "m1")]() { } } return 1; }); t(() => { class C extends n("p", 5) { [n("a", "m1")]() { } } return 1; }); t(() => { function P() { } P.prototype = 3; class C extends n("p", P) { [n("a", "m1")]() { } } return 1; }); t(() => { class C extends (() => 1) { } }); t(() => { class C extends ({ m() { } }).m { } });
+t(() => { class C { static ["prototype"]() { } } }); t(() => { class C { static get ["prototype"]() { return 1; } } }); t(() => { class C extends C { } }); t(() => { class C { [C.name]() { } } }); t(() => { const D = class C { static [typeof C]() { } }; });
+t(() => { const a = [1, 2, 3]; a[n("i", 0)] = a[n("j", 1)] = n("v", 9); return a.join(); }); t(() => { let o = { x: 1 }; const p = o; o.x = o = { x: 5 }; return p.x === o; }); t(() => { let i = 0; const a = [0, 0, 0]; a[i++] += i++; a[i++] = i; return a.join() + i; });
+t(() => { const o = Object.freeze({ a: 1 }); o.a = n("v", ob("V", 1)); }); t(() => { const o = Object.freeze([1]); o.length = n("v", ob("V", 1)); }); t(() => { const o = [1, 2, 3]; o.length = n("v", ob("V", 1)); return o.join(); }); t(() => { "abc".length = n("v", 1); }); t(() => { "abc"[ob("K", 0)] = n("v", 1); }); t(() => { "abc"[7] = 1; }); t(() => { (5).x = 1; }); t(() => { true.x = 1; }); t(() => { delete "abc".length; }); t(() => { delete "abc"[0]; }); t(() => delete "abc"[3]); t(() => delete (5).x);
