@@ -1,3 +1,5 @@
 pub mod Computing
 pub mod Sides
-mod FirstRows
+mod StatementRows
+mod ObjectRows
+mod EndRows

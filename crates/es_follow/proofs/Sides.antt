@@ -8,14 +8,15 @@ use Rattle.es_model.specs.Tree as t
 use Rattle.es_model.specs.Tree.{Tree}
 use Rattle.es_ops.specs.State.{State, Limits}
 use Rattle.es_ops.specs.ModuleGraph.{GraphFault}
-use Rattle.es_ops.specs.Boot.{Engine, Outcome, Started, Starts, NoPlan, started, gone}
+use Rattle.es_ops.specs.Boot.{Engine, Outcome, Started, Starts, NoPlan, started, gone, for_main}
 use Rattle.es_rows.specs.BuiltIns.{row}
+use Rattle.es_rows.specs.Start.{start}
 use Rattle.es_rows.specs.Realm.{realm_names, with_texts}
 use Rattle.code_gen.specs.Modules.{names, number_among, code_of}
-use Rattle.es_eval.specs.ModuleTables.{ModuleTable, module_table}
-use Rattle.es_eval.specs.Boot.{engine as evaluation, start as evaluation_start, for_main as evaluation_for_main}
+use Rattle.es_eval.specs.ModuleTables.{ModuleTable, module_table, sorts}
+use Rattle.es_eval.specs.Boot.{engine as evaluation}
+use Rattle.es_machine.specs.Tables.{sorts_in}
 use Rattle.es_machine.specs.Bodies.{engine as machine}
-use Rattle.es_machine.specs.Boot.{start as machine_start, for_main as machine_for_main}
 
 -- ---- a set of modules
 
@@ -50,16 +51,16 @@ abbrev pub limits_of : (budget : ℕ) → Limits
 limits_of budget = record { budget = budget; slots = 1048576; units = 4194304; first_writes = false }
 
 -- with at most so many steps for a body and for a job
-abbrev pub by_machine : (steps : ℕ) → (budget : ℕ) → List Source → End
+abbrev pub by_machine : (steps budget : ℕ) → List Source → End
 by_machine steps budget sources =
     let code = code_by (names_of sources) sources in
-    main_from (machine code row steps) (machine_for_main (limits_of budget) [] (machine_start code (limits_of budget)))
+    main_from (machine code row steps) (for_main (limits_of budget) [] (start (sorts_in code) code.names (limits_of budget)))
 
 abbrev pub by_evaluation : (budget : ℕ) → List Source → End
 by_evaluation budget sources =
     let tables = tables_of sources in
-    main_from (evaluation tables) (evaluation_for_main (limits_of budget) [] (evaluation_start tables (names_of sources) (limits_of budget)))
+    main_from (evaluation tables) (for_main (limits_of budget) [] (start (sorts tables) (names_of sources) (limits_of budget)))
 
--- the names that the realm has, and those of code, by one list
+-- main as the only module
 abbrev pub main_alone : Tree (t.list t.item) → List Source
 main_alone items = record { name = codes "main"; items = items } ∷ []
