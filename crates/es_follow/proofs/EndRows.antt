@@ -1,9 +1,7 @@
 -- Jobs, modules and ends, each program on both sides.
-use Rattle.std.specs.Prelude.{◌≡◌, List, true, false, [], ◌∷◌, codes, pos, Some, None, refl}
+use Rattle.std.specs.Prelude.{◌≡◌, List, false, [], ◌∷◌, codes, pos, Some, None, refl}
 use Rattle.es_model.specs.declared.kinds.Semi.TheVariants as semi
 use Rattle.es_model.specs.declared.kinds.FunctionKind.TheVariants as f
-use Rattle.es_model.specs.declared.kinds.MemberKind.TheVariants as m
-use Rattle.es_model.specs.declared.kinds.UnaryOperator.TheVariants as u
 use Rattle.es_model.specs.declared.kinds.BinaryOperator.TheVariants as b
 use Rattle.es_model.specs.Tree as t
 use Rattle.es_model.specs.Tree.{Tree}

@@ -1,15 +1,14 @@
 -- Classes, objects and calls back, each program on both sides.
-use Rattle.std.specs.Prelude.{◌≡◌, List, true, false, [], ◌∷◌, codes, pos, Some, None, refl}
+use Rattle.std.specs.Prelude.{◌≡◌, false, [], ◌∷◌, codes, pos, Some, None, refl}
 use Rattle.es_model.specs.declared.kinds.Semi.TheVariants as semi
 use Rattle.es_model.specs.declared.kinds.FunctionKind.TheVariants as f
 use Rattle.es_model.specs.declared.kinds.MemberKind.TheVariants as m
-use Rattle.es_model.specs.declared.kinds.UnaryOperator.TheVariants as u
 use Rattle.es_model.specs.declared.kinds.BinaryOperator.TheVariants as b
 use Rattle.es_model.specs.Tree as t
 use Rattle.es_model.specs.Tree.{Tree}
-use Rattle.code_gen.proofs.Rows.{named_at, pair_of}
+use Rattle.code_gen.proofs.Rows.{named_at}
 use Rattle.es_follow.proofs.Computing.{computing}
-use Rattle.es_follow.proofs.Sides.{Source, by_machine, by_evaluation, main_alone}
+use Rattle.es_follow.proofs.Sides.{by_machine, by_evaluation, main_alone}
 
 -- a class and one derived from it
 -- class A { constructor(x) { this.x = x; } } class B extends A { constructor() { super(4); } } export default new B().x;
