@@ -36,3 +36,12 @@ callback = t.more (t.Plain (t.Declare false (t.more (t.DeclaratorOf (named_at 4 
 callback_same : by_machine 400 50 (main_alone callback) ≡ by_evaluation 50 (main_alone callback)
 unfolding computing callback
 callback_same = refl
+
+-- a method that calls its parent by super
+-- class A { m() { return 2; } } class B extends A { m() { return super.m() + 1; } } export default new B().m();
+parents : Tree (t.list t.item)
+parents = t.more (t.Plain (t.ClassStatement (t.ClassOf 0 (Some (named_at 6 (codes "A"))) t.absent (t.more (t.MemberOf 10 false m.Method (t.KeyWord (codes "m")) t.absent (t.present (t.FunctionOf 10 None f.Method [] (t.BodyStatements (t.more (t.Return 16 (t.present (t.Number (pos 2))) semi.Written) t.none))))) t.none)))) (t.more (t.Plain (t.ClassStatement (t.ClassOf 30 (Some (named_at 36 (codes "B"))) (t.present (t.Name (named_at 46 (codes "A")))) (t.more (t.MemberOf 50 false m.Method (t.KeyWord (codes "m")) t.absent (t.present (t.FunctionOf 50 None f.Method [] (t.BodyStatements (t.more (t.Return 56 (t.present (t.Binary b.Add (t.Call (t.SuperDot 63 (codes "m")) t.none) (t.Number (pos 1)))) semi.Written) t.none))))) t.none)))) (t.more (t.ExportDefault 89 (t.DefaultValue (t.Call (t.Dot (t.New (t.Name (named_at 101 (codes "B"))) (t.present t.none)) (codes "m")) t.none)) semi.Written) t.none))
+
+parents_same : by_machine 400 50 (main_alone parents) ≡ by_evaluation 50 (main_alone parents)
+unfolding computing parents
+parents_same = refl

@@ -54,3 +54,12 @@ exits = t.more (t.Plain (t.FunctionStatement (t.FunctionOf 0 (Some (named_at 9 (
 exits_same : by_machine 400 50 (main_alone exits) ≡ by_evaluation 50 (main_alone exits)
 unfolding computing exits
 exits_same = refl
+
+-- a switch that falls through to its default, and a template
+-- let t = 1; switch (t) { case 1: t = 5; default: t = t + 1; break; case 9: t = 0; } export default `a${t}`;
+cases : Tree (t.list t.item)
+cases = t.more (t.Plain (t.Declare false (t.more (t.DeclaratorOf (named_at 4 (codes "t")) (t.present (t.Number (pos 1)))) t.none) semi.Written)) (t.more (t.Plain (t.Switch (t.Name (named_at 19 (codes "t"))) (t.more (t.CaseOf (t.present (t.Number (pos 1))) (t.more (t.Value (t.Assign 32 (t.Name (named_at 32 (codes "t"))) None (t.Number (pos 5))) semi.Written) t.none)) (t.more (t.CaseOf t.absent (t.more (t.Value (t.Assign 48 (t.Name (named_at 48 (codes "t"))) None (t.Binary b.Add (t.Name (named_at 52 (codes "t"))) (t.Number (pos 1)))) semi.Written) (t.more (t.Break 59 semi.Written) t.none))) (t.more (t.CaseOf (t.present (t.Number (pos 9))) (t.more (t.Value (t.Assign 74 (t.Name (named_at 74 (codes "t"))) None (t.Number (pos 0))) semi.Written) t.none)) t.none))))) (t.more (t.ExportDefault 90 (t.DefaultValue (t.Template ((codes "a") ∷ [] ∷ []) (t.more (t.Name (named_at 102 (codes "t"))) t.none))) semi.Written) t.none))
+
+cases_same : by_machine 400 50 (main_alone cases) ≡ by_evaluation 50 (main_alone cases)
+unfolding computing cases
+cases_same = refl
