@@ -1,0 +1,5 @@
+pub mod Computing
+pub mod Sides
+mod StatementRows
+mod ObjectRows
+mod EndRows

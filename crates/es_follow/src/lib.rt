@@ -1,0 +1,2 @@
+//! The byte machine beside evaluation, as laws.
+#![tactic(auto)]
