@@ -1,7 +1,7 @@
 -- Modules by evaluation: their bodies, the set-up of their functions, and calls from outside; the engine of a boot, and a boot
 -- from the realm on (ECMA-262 16.2.1.6.4, 16.2.1.6.5, 9.3).
 use Rattle.std.specs.Prelude.{ℕ, Bool, List, [], ◌∷◌, codes, ◌++◌, map, slice_get, Option, Some, None}
-use Rattle.js_value.specs.Value.{Value, Undefined, Object, Text}
+use Rattle.js_value.specs.Value.{Value, Undefined, Text}
 use Rattle.es_model.specs.Tree as t
 use Rattle.es_model.specs.Tree.{Tree}
 use Rattle.es_model.specs.Scopes.{default_names}
@@ -12,10 +12,10 @@ use Rattle.es_ops.specs.ModuleGraph.{ModuleRecord}
 use Rattle.es_ops.specs.Boot.{Engine, state_of_module, Ending, imported_cells, boot as boot_by}
 use Rattle.es_rows.specs.Start.{start}
 use Rattle.es_eval.specs.ModuleTables.{FunctionRow, ModuleTable, sorts}
-use Rattle.es_eval.specs.Completions.{Here, Completed, Doing, follow, ◌>>=◌, ◌>>◌, pure, done, body_value, as_ran}
-use Rattle.es_eval.specs.Environments.{Environment, outer_names, initialise_name, Hoisted, hoisted_by}
+use Rattle.es_eval.specs.Completions.{Here, Doing, ◌>>=◌, ◌>>◌, done, body_value, as_ran}
+use Rattle.es_eval.specs.Environments.{Environment, outer_names, initialise_name, hoisted_by}
 use Rattle.es_eval.specs.Operands.{new_function}
-use Rattle.es_eval.specs.Evaluation.{Smaller, calls, meaning, evaluator, here, environment_of, bind_kept_this}
+use Rattle.es_eval.specs.Evaluation.{calls, meaning, evaluator, here, environment_of, bind_kept_this}
 
 -- ---- the cells of a body: those of its top-level bindings, then those of its imports
 

@@ -1,6 +1,6 @@
 -- Completions (ECMA-262 6.2.4), and what the evaluation of a form does to the state. A stop is a completion that no script
 -- catches (own).
-use Rattle.std.specs.Prelude.{ℕ, zero, suc, List, Option, Some, None}
+use Rattle.std.specs.Prelude.{ℕ, zero, suc, List, Option}
 use Rattle.js_value.specs.Value.{Value, Undefined}
 use Rattle.es_ops.specs.State.{State, World}
 use Rattle.es_ops.specs.Ledger.{Event, Happens, Stops, Stop, Budget, OutOf}

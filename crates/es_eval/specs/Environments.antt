@@ -1,22 +1,22 @@
 -- Environments (ECMA-262 9.1): where the value of each name stands. A captured binding's cell is a thing of the store; any
 -- other binding stands in the cells of its own body, beside the store (own).
-use Rattle.std.specs.Prelude.{ℕ, zero, suc, Bool, true, false, cond, List, [], ◌∷◌, ◌++◌, map, get_or, set, Option, Some, None}
-use Rattle.js_value.specs.Value.{Value, Undefined, Object, same_text}
-use Rattle.js_value.specs.Store.{ACell, CellRecord, cell_in}
+use Rattle.std.specs.Prelude.{ℕ, Bool, true, false, cond, List, [], ◌∷◌, ◌++◌, map, get_or, set, Option, Some, None}
+use Rattle.js_value.specs.Value.{Value, Undefined, same_text}
+use Rattle.js_value.specs.Store.{ACell, cell_in}
 use Rattle.es_model.specs.declared.names.Identifier.{Identifier}
 use Rattle.es_model.specs.Tree as t
 use Rattle.es_model.specs.Tree.{Tree, Text}
-use Rattle.es_model.specs.Scopes.{Binding, Role, Imported, Inner, Own as OwnName, Receiver}
-use Rattle.es_model.specs.FreeNames.{role_number, place_of_binding}
+use Rattle.es_model.specs.Scopes.{Binding, Role, Imported, Inner}
+use Rattle.es_model.specs.FreeNames.{place_of_binding}
 use Rattle.es_ops.specs.Messages.{Message, NotDefined, NotInitialised, AssignmentToConstant}
 use Rattle.es_ops.specs.Events.{Make}
 use Rattle.es_ops.specs.State.{State}
-use Rattle.es_ops.specs.Act.{Act, Give, NormalCompletion, Ran, Ends}
+use Rattle.es_ops.specs.Act.{Give, NormalCompletion, Ran, Ends}
 use Rattle.es_ops.specs.Errors.{raise}
 use Rattle.es_ops.specs.Bindings.{initialize_cell, read_cell, write_cell}
 use Rattle.es_rows.specs.Realm.{global_names}
 use Rattle.es_eval.specs.ModuleTables.{FunctionRow, ModuleTable, is_among}
-use Rattle.es_eval.specs.Completions.{Here, Completed, Normal, Doing, follow, ◌>>=◌, ◌>>◌, pure, done, acts, does}
+use Rattle.es_eval.specs.Completions.{Normal, Doing, follow, ◌>>=◌, ◌>>◌, pure, done, acts, does}
 
 -- ---- places
 

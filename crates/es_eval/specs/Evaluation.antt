@@ -1,5 +1,5 @@
 -- Evaluation of trees (ECMA-262, sections 13 to 16), one case for each form, over the operations of es_ops.
-use Rattle.std.specs.Prelude.{ℕ, zero, suc, Bool, true, false, cond, ◌&&◌, List, [], ◌∷◌, ◌++◌, map, length, pos, Option, Some, None, codes, slice_get}
+use Rattle.std.specs.Prelude.{ℕ, zero, suc, Bool, true, false, cond, ◌&&◌, List, [], ◌∷◌, map, pos, Option, Some, None, codes, slice_get}
 use Rattle.js_value.specs.Value.{Value, Undefined, Null, Boolean, Number, String, Object}
 use Rattle.js_value.specs.NumberText.{text_of_number}
 use Rattle.js_value.specs.Store.{Class, ScriptFunction, BuiltInFunction, ResolveFunction, RejectFunction, object_in}
@@ -10,13 +10,13 @@ use Rattle.es_model.specs.declared.names.Identifier.{Identifier}
 use Rattle.es_model.specs.Tree as t
 use Rattle.es_model.specs.Tree.{Tree, Text}
 use Rattle.es_model.specs.Functions.{FunctionForm, Written, Generated, is_constructor}
-use Rattle.es_model.specs.Scopes.{Binding, Inner, Own as OwnName, default_names}
+use Rattle.es_model.specs.Scopes.{Inner, Own as OwnName, default_names}
 use Rattle.es_model.specs.FreeNames.{Held, in_arrow, receiver}
 use Rattle.es_ops.specs.Intrinsics.{ObjectPrototype}
 use Rattle.es_ops.specs.State.{State}
-use Rattle.es_ops.specs.Ledger.{Stop, Budget}
+use Rattle.es_ops.specs.Ledger.{Budget}
 use Rattle.es_ops.specs.Messages.{NotAFunction}
-use Rattle.es_ops.specs.Act.{Act, Give, Call, Calls, Completion, NormalCompletion, Ran, Ends, Halts, run}
+use Rattle.es_ops.specs.Act.{Act, Give, Call, Calls, Ran, Halts, run}
 use Rattle.es_ops.specs.Errors.{raise}
 use Rattle.es_ops.specs.Conversions.{to_boolean}
 use Rattle.es_ops.specs.Equality.{is_strictly_equal}
@@ -26,9 +26,9 @@ use Rattle.es_ops.specs.Calling.{by_rules, construct, super_call, create_from_co
 use Rattle.es_ops.specs.Making.{make_object, make_array, append, define_member, name_function}
 use Rattle.es_rows.specs.BuiltIns.{row}
 use Rattle.es_eval.specs.ModuleTables.{FunctionRow, ModuleTable, kind_of_class}
-use Rattle.es_eval.specs.Completions.{Here, Abrupt, Return, Break, Continue, Throw, Stopped, Completed, Normal, Ended, Doing, follow, ◌>>=◌, ◌>>◌, pure, ends, done, acts, take_unit, body_value, as_ran, after_turn, unbroken, caught, finally_done}
-use Rattle.es_eval.specs.Environments.{Environment, Bound, Place, place_of_name, read_name, write_name, initialise_name, raises, no_calls, nothing_given, is_missing, this_name, bind, bind_name, bind_all, bind_functions, Declaration, Hoisted, lexical, lexical_in, hoisted_in, lexical_in_cases, hoisted_in_cases, copy_all, outer_names, set_own, own_place, binding_of}
-use Rattle.es_eval.specs.Operands.{binary_operator, unary_operator, step_operator, Reference, NameReference, PropertyReference, SuperReference, NoReference, receiver_of, MembersOf, OfObject, OfClass, object_of_member, is_enumerable, member_sort, MemberKey, written_key, name_by_key, is_anonymous, name_of_target, name_or, new_function, Constructor, constructor_by, made_class, members_of_class, object_number, own_this, bind_own_this}
+use Rattle.es_eval.specs.Completions.{Here, Return, Break, Continue, Throw, Stopped, Normal, Doing, follow, ◌>>=◌, ◌>>◌, pure, ends, done, acts, take_unit, body_value, as_ran, after_turn, unbroken, caught, finally_done}
+use Rattle.es_eval.specs.Environments.{Environment, Bound, place_of_name, read_name, write_name, initialise_name, raises, no_calls, nothing_given, is_missing, this_name, bind, bind_name, bind_all, bind_functions, Declaration, Hoisted, lexical, lexical_in, hoisted_in, lexical_in_cases, hoisted_in_cases, copy_all, outer_names}
+use Rattle.es_eval.specs.Operands.{binary_operator, unary_operator, step_operator, Reference, NameReference, PropertyReference, SuperReference, NoReference, receiver_of, MembersOf, OfObject, object_of_member, is_enumerable, member_sort, MemberKey, written_key, name_by_key, is_anonymous, name_of_target, name_or, new_function, Constructor, constructor_by, made_class, members_of_class, object_number, own_this, bind_own_this}
 
 -- ---- what runs with one unit of the meter less: the body of a call, and the next turn of a loop
 

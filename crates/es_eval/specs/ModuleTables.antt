@@ -1,7 +1,7 @@
 -- What evaluation knows of a module beside its trees: its functions by number, which bindings are captured, its top-level
 -- bindings, and its record in the graph (ECMA-262 16.2.1.6). All of it is said by es_model; here it stands side by side.
-use Rattle.std.specs.Prelude.{ℕ, zero, suc, ◌==◌, ◌&&◌, Bool, true, false, not, cond, List, [], ◌∷◌, ◌++◌, map, length, Option, Some, None, codes, slice_get}
-use Rattle.std.specs.List.{list_any, flat_map}
+use Rattle.std.specs.Prelude.{ℕ, suc, ◌==◌, ◌&&◌, Bool, true, false, not, cond, List, [], ◌∷◌, ◌++◌, map, length, Option, Some, None, codes}
+use Rattle.std.specs.List.{list_any}
 use Rattle.js_value.specs.Value.{same_text}
 use Rattle.es_model.specs.declared.kinds.FunctionKind.{FunctionKind}
 use Rattle.es_model.specs.declared.kinds.FunctionKind.TheVariants as f
@@ -9,9 +9,9 @@ use Rattle.es_model.specs.declared.names.Identifier.{Identifier}
 use Rattle.es_model.specs.declared.names.Pair.{Pair}
 use Rattle.es_model.specs.Tree as t
 use Rattle.es_model.specs.Tree.{Tree, Text}
-use Rattle.es_model.specs.Functions.{FunctionForm, Written, Generated, functions, function_at}
+use Rattle.es_model.specs.Functions.{FunctionForm, Written, Generated, functions}
 use Rattle.es_model.specs.Scopes.{Enclosing, Binding, top_bindings, find_binding, declared_by, default_names}
-use Rattle.es_model.specs.FreeNames.{Mention, Binds, Refers, Free, Temporary, mentions, outside, distinct_after, held_from, this_cell_of, receiver, in_arrow, same_binding, same_round, is_top, meant, index_of, round_of, Held, places, captured}
+use Rattle.es_model.specs.FreeNames.{Mention, mentions, outside, distinct_after, receiver, in_arrow, same_binding, meant, index_of, round_of, Held, places, captured}
 use Rattle.es_ops.specs.State.{FunctionSort, OnlyCalled, CalledAndConstructed, OnlyConstructed}
 use Rattle.es_ops.specs.ModuleGraph.{ModuleRecord, ModuleImport, ModuleExport, LocalExport, IndirectExport}
 

@@ -1,7 +1,6 @@
 -- What forms do with the values of their operands (ECMA-262 13, 15): operators, references, members, functions and classes.
-use Rattle.std.specs.Prelude.{ℕ, Bool, true, false, cond, List, [], ◌∷◌, ◌++◌, length, ℤ, pos, Option, Some, None, codes}
-use Rattle.js_value.specs.Value.{Value, Undefined, Boolean, Number, String, Object}
-use Rattle.js_value.specs.NumberText.{text_of_number}
+use Rattle.std.specs.Prelude.{ℕ, Bool, true, false, cond, List, [], ◌++◌, length, Option, Some, None, codes}
+use Rattle.js_value.specs.Value.{Value, Undefined, String, Object}
 use Rattle.js_value.specs.Store.{Class, ScriptFunction, object_in}
 use Rattle.es_model.specs.declared.kinds.FunctionKind.{FunctionKind}
 use Rattle.es_model.specs.declared.kinds.FunctionKind.TheVariants as f
@@ -14,15 +13,13 @@ use Rattle.es_model.specs.declared.kinds.BinaryOperator.TheVariants as b
 use Rattle.es_model.specs.declared.names.Identifier.{Identifier}
 use Rattle.es_model.specs.Tree as t
 use Rattle.es_model.specs.Tree.{Tree, Text}
-use Rattle.es_model.specs.Functions.{FunctionForm, Written, Generated, is_constructor}
 use Rattle.es_ops.specs.Operators as o
 use Rattle.es_ops.specs.Messages.{SuperCalledTwice, NotAFunction}
-use Rattle.es_ops.specs.Act.{Act, Give, Call, Calls}
-use Rattle.es_ops.specs.References.{get_by_value, put_by_value, delete_by_value, key_by_value, super_get, super_set}
-use Rattle.es_ops.specs.Making.{FunctionCode, make_function, make_method, make_class, make_derived_class, MemberSort, DataMember, GetterMember, SetterMember, define_member, name_function}
-use Rattle.es_eval.specs.ModuleTables.{FunctionRow, ModuleTable, row_by, is_function_at, is_generated_at}
-use Rattle.es_eval.specs.Completions.{Here, Completed, Normal, Doing, follow, ◌>>=◌, ◌>>◌, pure, done, acts}
-use Rattle.es_eval.specs.Environments.{Environment, Place, place_of_name, read_name, write_name, initialise_place, initialised, raises, no_calls, nothing_given, captured_cells, this_name, is_missing}
+use Rattle.es_ops.specs.Act.{Act, Give, Calls}
+use Rattle.es_ops.specs.Making.{FunctionCode, make_function, make_method, make_class, make_derived_class, MemberSort, DataMember, GetterMember, SetterMember}
+use Rattle.es_eval.specs.ModuleTables.{FunctionRow, row_by, is_function_at, is_generated_at}
+use Rattle.es_eval.specs.Completions.{Normal, Doing, follow, pure, acts}
+use Rattle.es_eval.specs.Environments.{Environment, place_of_name, initialise_place, initialised, raises, no_calls, captured_cells, this_name}
 
 -- ---- operators
 
