@@ -123,7 +123,7 @@ abbrev pub under_parent : Bool → Pieces → Pieces
 under_parent true values = rest values
 under_parent false values = values
 
--- names were found, and are the first value in the place of the expression that listed them; or there are none
+-- names were found, and are the first value in the place of the expression that listed them; or there are none, and the expression is dropped
 abbrev pub Finds : Bool → Option (List Identifier) → Pieces → Pieces → Type 0
 Finds true names old new = (list : List Identifier) × ((names ≡ Some list) × (new ≡ v.Names list ∷ rest old))
-Finds false names old new = names ≡ None
+Finds false names old new = (names ≡ None) × (new ≡ rest old)
